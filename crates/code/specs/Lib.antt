@@ -1,0 +1,5 @@
+pub mod Meaning
+pub mod Laws
+pub mod Order
+pub mod Ascii
+pub mod Ebcdic

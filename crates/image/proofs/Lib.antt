@@ -1,0 +1,5 @@
+pub mod Gather
+pub mod Entries
+pub mod Granting
+pub mod Steps
+pub mod Finding

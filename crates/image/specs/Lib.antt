@@ -1,0 +1,9 @@
+pub mod Tests
+pub mod Lines
+pub mod Layout
+pub mod Contents
+pub mod Questions
+pub mod Opening
+pub mod Reading
+pub mod Granting
+pub mod Finding

@@ -1,0 +1,70 @@
+// The question which bytes may stand in names and in bodies.
+ghost use mathlib.Core.Path.{_≡_};
+ghost use Prim.Native.Nat.{_*_, _≤_};
+ghost use lib.ListN.{length};
+ghost use Rattle.image.specs.Tests.{every};
+ghost use Rattle.image.specs.Layout.{body-byte, proper-bytes};
+ghost use Rattle.image.specs.Contents.{entries, text-sizes, lines};
+ghost use Rattle.image.specs.Reading.{line-read};
+use crate::line::Line;
+use crate::line::read_line;
+use code::Code;
+
+// Are all these bytes characters?
+fn all_characters<C: Code>(code: &C, bytes: &[u8]) -> bool
+    ensures { λ r. ⌜ r ≡ every (meaning .character) (now (bytes .entry)) ⌝ }
+{
+    for byte in bytes {
+        if !code.is_character(*byte) {
+            return false;
+        }
+    }
+    true
+}
+
+// Is this byte a character, the end of line or a mark?
+fn is_body_byte<C: Code>(code: &C, byte: u8) -> bool
+    ensures { λ r. ⌜ r ≡ body-byte meaning byte ⌝ }
+{
+    code.is_character(byte)
+        || byte == code.end_of_line()
+        || byte == code.creation_mark()
+        || code.mark_number(byte).is_some()
+}
+
+fn all_body_bytes<C: Code>(code: &C, bytes: &[u8]) -> bool
+    ensures { λ r. ⌜ r ≡ every (body-byte meaning) (now (bytes .entry)) ⌝ }
+{
+    for byte in bytes {
+        if !is_body_byte(code, *byte) {
+            return false;
+        }
+    }
+    true
+}
+
+fn is_proper<C: Code>(code: &C, line: &Line) -> bool
+    ensures { λ r. ⌜ r ≡ proper-bytes meaning (line-read (now (line .entry))) ⌝ }
+{
+    all_characters(code, line.program)
+        && all_characters(code, line.name)
+        && all_body_bytes(code, line.body)
+}
+
+// Are all name bytes characters, and all body bytes characters, ends of lines or marks?
+pub fn are_proper<'a, C: Code>(code: &C, contents: &'a [u8], count: usize, texts: &'a [u8]) -> bool
+    requires few { ⌜ count ≤ 128 ⌝ }
+    requires whole { ⌜ 25 * count ≤ length (now contents) ⌝ }
+    requires filled { ⌜ text-sizes (entries count (now contents)) ≡ length (now texts) ⌝ }
+    ensures { λ r. ⌜ r ≡ every (proper-bytes meaning) (lines (entries count (now (contents .entry))) (now (texts .entry))) ⌝ }
+{
+    let mut start = 0usize;
+    for i in 0..count {
+        let line = read_line(contents, texts, i, start);
+        if !is_proper(code, &line) {
+            return false;
+        }
+        start += line.name.len() + line.body.len();
+    }
+    true
+}

@@ -1,0 +1,30 @@
+// Why a call is refused: one named case for each refusal, and the number of each.
+ghost use mathlib.Core.Path.{_≡_};
+ghost use Rattle.refusal.specs.Numbers.{number-of as number-of-refusal};
+ghost use Rattle.refusal.specs.Numbers.{Numbers-differ};
+
+#[derive(Clone, Copy, PartialEq, Eq, Debug)]
+pub enum Refusal {
+    // the image has no two bytes, or names another code
+    WrongCode = 2,
+    // more than 128 strings, or the contents are cut short
+    ContentsIncomplete = 3,
+    // a program name that is not 1 to 20 bytes long, or not filled with zeros
+    ProgramNameMalformed = 4,
+    // the strings of a program do not stand together
+    ProgramSplit = 5,
+    // names and bodies do not fill the rest of the image exactly
+    TextsMisfit = 6,
+    // a byte that may not stand in a name or in a body
+    ForeignByte = 7,
+}
+
+impl Refusal {
+    // The number by which the refusal is known; no two have the same.
+    pub fn number(self) -> u8
+        ensures value { λ r. ⌜ r ≡ number-of-refusal self ⌝ }
+        ensures distinct { λ _. ⌜ Numbers-differ ⌝ }
+    {
+        self as u8
+    }
+}
