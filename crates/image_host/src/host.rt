@@ -13,7 +13,11 @@ use library::search;
 use refusal::Refusal;
 
 // Where the program of that name stands in the image that the buffer holds. Refused, the buffer is as before.
-pub fn find_and_clear<C: Code>(code: &C, buffer: &mut [u8], name: &[u8]) -> Result<Option<usize>, Refusal>
+pub fn find_and_clear<C: Code>(
+    code: &C,
+    buffer: &mut [u8],
+    name: &[u8],
+) -> Result<Option<usize>, Refusal>
     ensures refusal { λ r. ⌜ errPart r ≡ refusal-of-image meaning (now (buffer .entry)) ⌝ }
     ensures found { λ r. ⌜ made r (λ k. k ≡ place (now (name .entry)) (programs-of (now (buffer .entry)))) ⌝ }
     ensures cleared { λ r. ⌜ now (buffer .exit) ≡ kept-or (errPart r) (replicate (length (now (buffer .entry))) 0) (now (buffer .entry)) ⌝ }

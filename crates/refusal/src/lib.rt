@@ -1,7 +1,7 @@
 // Why a call is refused: one named case for each refusal, and the number of each.
 ghost use mathlib.Core.Path.{_≡_};
-ghost use Rattle.refusal.specs.Numbers.{number-of as number-of-refusal};
-ghost use Rattle.refusal.specs.Numbers.{Numbers-differ};
+ghost use Rattle.refusal.specs.Names.{name-of as name-of-refusal};
+ghost use Rattle.refusal.specs.Numbers.{Numbers-differ, number-of as number-of-refusal};
 
 #[derive(Clone, Copy, PartialEq, Eq, Debug)]
 pub enum Refusal {
@@ -26,5 +26,19 @@ impl Refusal {
         ensures distinct { λ _. ⌜ Numbers-differ ⌝ }
     {
         self as u8
+    }
+
+    // What the refusal is called.
+    pub fn name(self) -> &'static str
+        ensures { λ r. ⌜ now r ≡ name-of-refusal self ⌝ }
+    {
+        match self {
+            Refusal::WrongCode => "wrong code",
+            Refusal::ContentsIncomplete => "contents incomplete",
+            Refusal::ProgramNameMalformed => "program name malformed",
+            Refusal::ProgramSplit => "program split",
+            Refusal::TextsMisfit => "texts misfit",
+            Refusal::ForeignByte => "foreign byte",
+        }
     }
 }

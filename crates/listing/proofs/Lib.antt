@@ -1,0 +1,3 @@
+pub mod OneMore
+pub mod Reading
+pub mod Lines
