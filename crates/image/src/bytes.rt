@@ -3,40 +3,40 @@ ghost use mathlib.Core.Path.{_≡_};
 ghost use Prim.Native.Nat.{_*_, _≤_};
 ghost use lib.ListN.{length};
 ghost use Rattle.image.specs.Tests.{every};
-ghost use Rattle.image.specs.Layout.{body-byte, proper-bytes};
+ghost use Rattle.image.specs.Layout.{proper-bytes};
 ghost use Rattle.image.specs.Contents.{entries, text-sizes, lines};
-ghost use Rattle.image.specs.Reading.{line-read};
+ghost use Rattle.image.specs.Reading.{line-read, allowed};
 use crate::line::Line;
 use crate::line::read_line;
 use code::Code;
 
-// Are all these bytes characters?
-fn all_characters<C: Code>(code: &C, bytes: &[u8]) -> bool
-    ensures { λ r. ⌜ r ≡ every (meaning .character) (now (bytes .entry)) ⌝ }
+// Where a byte stands.
+#[derive(Clone, Copy)]
+pub enum Part {
+    Name,
+    Body,
+}
+
+// May the byte stand there? A name has characters; a body has characters, ends of lines and marks.
+fn is_allowed<C: Code>(code: &C, part: Part, byte: u8) -> bool
+    ensures { λ r. ⌜ r ≡ allowed meaning part byte ⌝ }
 {
-    for byte in bytes {
-        if !code.is_character(*byte) {
-            return false;
+    match part {
+        Part::Name => code.is_character(byte),
+        Part::Body => {
+            code.is_character(byte)
+                || byte == code.end_of_line()
+                || byte == code.creation_mark()
+                || code.mark_number(byte).is_some()
         }
     }
-    true
 }
 
-// Is this byte a character, the end of line or a mark?
-fn is_body_byte<C: Code>(code: &C, byte: u8) -> bool
-    ensures { λ r. ⌜ r ≡ body-byte meaning byte ⌝ }
-{
-    code.is_character(byte)
-        || byte == code.end_of_line()
-        || byte == code.creation_mark()
-        || code.mark_number(byte).is_some()
-}
-
-fn all_body_bytes<C: Code>(code: &C, bytes: &[u8]) -> bool
-    ensures { λ r. ⌜ r ≡ every (body-byte meaning) (now (bytes .entry)) ⌝ }
+fn are_allowed<C: Code>(code: &C, part: Part, bytes: &[u8]) -> bool
+    ensures { λ r. ⌜ r ≡ every (allowed meaning part) (now (bytes .entry)) ⌝ }
 {
     for byte in bytes {
-        if !is_body_byte(code, *byte) {
+        if !is_allowed(code, part, *byte) {
             return false;
         }
     }
@@ -46,9 +46,9 @@ fn all_body_bytes<C: Code>(code: &C, bytes: &[u8]) -> bool
 fn is_proper<C: Code>(code: &C, line: &Line) -> bool
     ensures { λ r. ⌜ r ≡ proper-bytes meaning (line-read (now (line .entry))) ⌝ }
 {
-    all_characters(code, line.program)
-        && all_characters(code, line.name)
-        && all_body_bytes(code, line.body)
+    are_allowed(code, Part::Name, line.program)
+        && are_allowed(code, Part::Name, line.name)
+        && are_allowed(code, Part::Body, line.body)
 }
 
 // Are all name bytes characters, and all body bytes characters, ends of lines or marks?

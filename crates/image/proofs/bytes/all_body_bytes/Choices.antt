@@ -1,8 +1,0 @@
-use mathlib.Core.Path.{_≡_}
-use lib.ListN.{drop}
-use Rattle.image.specs.Tests.{every}
-use Rattle.image.specs.Layout.{body-byte}
-use Rattle.image.proofs.bytes.all_body_bytes.Given as given
-
-abbrev pub Inv-loop-byte : given.InvT-loop-byte
-Inv-loop-byte g l = every (body-byte (g .C·Code .meaning)) (drop (l .byte-index) (l .bytes)) ≡ every (body-byte (g .C·Code .meaning)) (l .bytes)
