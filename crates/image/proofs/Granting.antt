@@ -14,12 +14,13 @@ use Rattle.std.proofs.shelf.Tests.{and-parts, and-from, eqb-true, eq-eqb, leb-t
 use Rattle.code.specs.Meaning.{CodeMeaning, within}
 use Rattle.library.specs.Meaning.{Program, Lawful}
 use Rattle.refusal.specs.declared.Refusal.{Refusal}
+use Rattle.refusal.specs.Outcome.{kept-or}
 use Rattle.image.specs.Tests.{every}
 use Rattle.image.specs.Lines.{Line, line, listed, gathered}
 use Rattle.image.specs.Layout.{Entry, entry-for, entry-bytes, text-bytes, laid-out, laid-out-lines, Keeps-rules, proper-bytes, short-texts}
 use Rattle.image.specs.Contents.{entries, first-entry, from-entry, Small, program-of, text-sizes, text-size, lines, line-at, programs-in}
 use Rattle.image.specs.Questions.{ask, well-named, adjacent, contents-refusal, complete, image-refusal}
-use Rattle.image.specs.Opening.{programs-of, image-library, kept-or, Opened, Layout-is-unique}
+use Rattle.image.specs.Opening.{programs-of, image-library, Opened, Layout-is-unique}
 use Rattle.image.proofs.Gather.{name-of, program-of-line, name-fits, all-apart, listed-gathered, every-gathered, apart-gathered, lawful-from-tests, fits-from-named, apart-from-distinct, gathered-listed, filled-gathered}
 use Rattle.image.proofs.Entries.{whole, small-rest, entries-of-bytes, length-entries-bytes, bytes-of-entries, whole-entries, length-entries, lines-of-texts, texts-size, texts-of-lines, entries-of-lines, programs-of-lines, length-lines, names-fit}
 

@@ -1,6 +1,5 @@
 -- What opening an image comes to, by the questions and by the layout.
 use mathlib.Core.Path.{_≡_}
-use mathlib.Core.Bool.{true}
 use mathlib.Core.List.{List, [], _∷_}
 use Prim.Native.Nat.{ℕ, _*_, _<_}
 use lib.ListN.{getD, take, drop}
@@ -8,8 +7,8 @@ use Rattle.std.specs.declared.option.Option.{Option}
 use Rattle.std.specs.declared.option.Option.the-variants.{Some, None}
 use Rattle.code.specs.Meaning.{CodeMeaning}
 use Rattle.refusal.specs.declared.Refusal.{Refusal}
-use Rattle.library.specs.declared.space.Space.{Space}
 use Rattle.library.specs.Meaning.{Program, Library}
+use Rattle.library.specs.Locked.{locked-library}
 use Rattle.image.specs.Layout.{laid-out, Keeps-rules}
 use Rattle.image.specs.Contents.{programs-in}
 use Rattle.image.specs.Questions.{image-refusal}
@@ -22,12 +21,7 @@ programs-of (number ∷ count ∷ rest) = programs-in count (take (25 * count) r
 
 -- the library that an image of programs is: only read, so it is locked and has no space
 abbrev pub image-library : List Program → Library
-image-library ps = record { programs = ps; space = record { programs = 0; strings = 0; bytes = 0 }; locked = true }
-
--- what is held after an open: the new, or the old if it was refused
-abbrev pub kept-or : {X : Type 0} → Option Refusal → X → X → X
-kept-or None new old = new
-kept-or (Some refusal) new old = old
+image-library ps = locked-library ps
 
 -- What opening an image comes to, by the refusal, if there is one, and the library before and after.
 pub record Opened (code : CodeMeaning) (image : List ℕ) (refused : Option Refusal) (before after : Library) : Type 0 where

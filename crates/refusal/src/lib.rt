@@ -17,6 +17,14 @@ pub enum Refusal {
     TextsMisfit = 6,
     // a byte that may not stand in a name or in a body
     ForeignByte = 7,
+    // the library is locked
+    Locked = 27,
+    // a program of that name is there already
+    ProgramPresent = 28,
+    // no program of that name is there
+    ProgramAbsent = 29,
+    // not enough programs, strings or bytes are left
+    LibraryFull = 30,
 }
 
 impl Refusal {
@@ -39,6 +47,10 @@ impl Refusal {
             Refusal::ProgramSplit => "program split",
             Refusal::TextsMisfit => "texts misfit",
             Refusal::ForeignByte => "foreign byte",
+            Refusal::Locked => "locked",
+            Refusal::ProgramPresent => "program present",
+            Refusal::ProgramAbsent => "program absent",
+            Refusal::LibraryFull => "library full",
         }
     }
 }

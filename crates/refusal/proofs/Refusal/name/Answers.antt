@@ -19,3 +19,15 @@ returns-in-TextsMisfit c = sym (ap name-of (c .in-TextsMisfit .is))
 
 pub returns-in-ForeignByte : need.returns-in-ForeignByte
 returns-in-ForeignByte c = sym (ap name-of (c .in-ForeignByte .is))
+
+pub returns-in-Locked : need.returns-in-Locked
+returns-in-Locked c = sym (ap name-of (c .in-Locked .is))
+
+pub returns-in-ProgramPresent : need.returns-in-ProgramPresent
+returns-in-ProgramPresent c = sym (ap name-of (c .in-ProgramPresent .is))
+
+pub returns-in-ProgramAbsent : need.returns-in-ProgramAbsent
+returns-in-ProgramAbsent c = sym (ap name-of (c .in-ProgramAbsent .is))
+
+pub returns-in-LibraryFull : need.returns-in-LibraryFull
+returns-in-LibraryFull c = sym (ap name-of (c .in-LibraryFull .is))

@@ -10,7 +10,8 @@ use Rattle.std.specs.declared.result.Result.the-variants.{Err}
 use Rattle.std.proofs.shelf.Parts.{between-to-end}
 use Rattle.std.proofs.shelf.Results.{err-from-errBy}
 use Rattle.refusal.specs.declared.Refusal.{Refusal}
-use Rattle.image.specs.Opening.{programs-of, kept-or}
+use Rattle.refusal.specs.Outcome.{kept-or}
+use Rattle.image.specs.Opening.{programs-of}
 use Rattle.image.specs.Granting.{programs-held}
 use Rattle.image.proofs.Granting.{Apart, taken-apart, sound-contents, lawful-contents}
 use Rattle.image.specs.Contents.{entries}

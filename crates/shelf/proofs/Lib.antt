@@ -1,0 +1,7 @@
+pub mod Totals
+pub mod Packed
+pub mod Handed
+pub mod Laws
+pub mod Meant
+pub mod Gained
+pub mod Lost

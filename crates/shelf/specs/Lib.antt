@@ -1,0 +1,4 @@
+pub mod Decoding
+pub mod Places
+pub mod Adding
+pub mod Shelved
