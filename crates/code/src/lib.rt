@@ -1,4 +1,7 @@
 // A character code: what one means, the laws that every code keeps, and the two codes that the product has.
+
+#![tactic(auto)]
+
 ghost use Rattle.std.specs.Prelude.{◌≡◌};
 ghost use Rattle.code.specs.Meaning.{CodeMeaning, CodeLaws};
 ghost use Rattle.code.specs.Meaning.{byte_of as byte_of_char, mark_of as mark_of_number, rank_of as rank_of_byte};

@@ -1,5 +1,7 @@
 // Two libraries: whether they hold the same programs and mean the same, and the programs of one stored in the other.
 
+#![tactic(auto)]
+
 mod agreement;
 mod compare;
 mod copying;

@@ -1,5 +1,7 @@
 // Images of programs: the format, opening one, and the opened image as a library.
 
+#![tactic(auto)]
+
 mod bytes;
 mod entry;
 mod granted;

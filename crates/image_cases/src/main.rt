@@ -2,6 +2,8 @@
 // expects. A line of the table: the code's number, the answer, the image in hex or - for no byte, the case's name.
 // Before that it uses an image as a host does; what must not build is tried on copies of it (tests/must-not-build).
 
+#![tactic(auto)]
+
 mod answer;
 mod hex;
 mod host;

@@ -1,5 +1,7 @@
 // The interfaces of a library of programs, for reading and for keeping; the name of a program as a type; finding a program by its name; a library behind a lock; and what a host does with any library, with the laws of keeping.
 
+#![tactic(auto)]
+
 mod keeper;
 mod lent;
 mod lock;

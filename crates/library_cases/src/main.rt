@@ -9,6 +9,8 @@
 //   lib                         the whole library
 // Any other line is answered by `bad line`.
 
+#![tactic(auto)]
+
 mod answers;
 mod command;
 mod kept;

@@ -1,4 +1,7 @@
 // A library of programs as readable text.
+
+#![tactic(auto)]
+
 ghost use Rattle.std.specs.Prelude.{◌≡◌, IfOk, string_bytes};
 ghost use Rattle.listing.specs.Adds.{Adds};
 ghost use Rattle.listing.specs.Listing.{listing};

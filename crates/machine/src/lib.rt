@@ -1,6 +1,8 @@
 // The machine of the language, defined once. The definitions are in specs/, over lists and records; here are the words that
 // they share with code: the built-in functions, the entries of the roll, and amounts of what is counted.
 
+#![tactic(auto)]
+
 mod amounts;
 mod built_in;
 mod cases;

@@ -1,4 +1,7 @@
 // Why a call is refused: one named case for each refusal, and the number of each.
+
+#![tactic(auto)]
+
 ghost use Rattle.std.specs.Prelude.{◌≡◌};
 ghost use Rattle.refusal.specs.Names.{name_of as name_of_refusal};
 ghost use Rattle.refusal.specs.Numbers.{NumbersDiffer, number_of as number_of_refusal};

@@ -1,5 +1,7 @@
 // A shelf: a library of bounded size that stores programs and deletes them. It allocates when it is made, and never after.
 
+#![tactic(auto)]
+
 mod adding;
 mod keeping;
 mod making;

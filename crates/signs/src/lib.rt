@@ -1,4 +1,7 @@
 // The bytes of a code that the rules of the language ask for, read once.
+
+#![tactic(auto)]
+
 ghost use Rattle.std.specs.Prelude.{◌≡◌, true, map};
 ghost use Rattle.code.specs.Meaning.{named_char};
 ghost use Rattle.signs.specs.Named.{all_named};

@@ -1,5 +1,7 @@
 // Shows the demonstration image, and beside it a locked shelf of the same programs.
 
+#![tactic(auto)]
+
 mod demo;
 mod demonstration;
 mod failure;

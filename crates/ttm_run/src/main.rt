@@ -1,6 +1,8 @@
 // Lists an image of programs: the demonstration image, or the file that is named. A bad image is refused on standard
 // error, and the program ends with status 1.
 
+#![tactic(auto)]
+
 mod demo;
 mod failure;
 mod show;
