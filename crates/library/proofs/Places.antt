@@ -1,7 +1,6 @@
 -- Where the program of a name stands.
-use Rattle.std.proofs.Common.{◌≡◌, ℕ, zero, suc, ◌+◌, ◌<◌, Bool, true, false, cond, List, [], ◌∷◌, length, Some, None, Decides, Option, refl, ap, ◌∙◌, add-one, arith, Bor, MatchOption}
-use Rattle.std.specs.Option.{option_map}
-use Rattle.std.specs.Cmp.Lexicographic.{Matches}
+use Rattle.std.proofs.Common.{◌≡◌, ℕ, zero, suc, ◌+◌, ◌<◌, Bool, true, false, cond, List, [], ◌∷◌, length, Some, None, Decides, Option, refl, sym, ap, ◌∙◌, add-one, arith, Bor, MatchOption}
+use Rattle.std.specs.Option.{option_map, option_eq}
 use Rattle.std.specs.Str.{bytes_eq}
 use Rattle.std.proofs.lemmas.Slice.Eq.{bytes_eq-Decides, slice_eq-Decides}
 use Rattle.library.specs.Meaning.{Program, Lawful, name_at, place}
@@ -12,11 +11,11 @@ abbrev pub UnnamedBefore : List ℕ → List Program → ℕ → Type 0
 UnnamedBefore n ps k = (j : ℕ) → j < k → name_at ps j ≡ Some n → ⊥
 
 -- `==` between the name that a library answers and n tells whether it is n
-pub compared : (o : Option (Bor (List ℕ))) (m : Option (List ℕ)) (n : List ℕ) (t : Bool) → option_map (λ x. x.now) o ≡ m → MatchOption o (t ≡ false) (λ x. Matches (λ (a b : ℕ) (u : Bool). Decides u (a ≡ b)) x.now n t) → Decides t (m ≡ Some n)
+pub compared : (o : Option (Bor (List ℕ))) (m : Option (List ℕ)) (n : Bor (List ℕ)) (t : Bool) → option_map (λ x. x.now) o ≡ m → t ≡ option_eq (λ x y. bytes_eq x.now y.now) o (Some n) → Decides t (m ≡ Some n.now)
 compared None m n t e f = ((λ h. cc), (λ h. cc))
 compared (Some x) m n t e f =
-    let d = slice_eq-Decides Decides-eqb x.now n t f in
-    ((λ h. let same : x.now ≡ n = d.0 h in cc), (λ h. d.1 (cc)))
+    let d = bytes_eq-Decides x.now n.now in
+    ((λ h. let same : x.now ≡ n.now = d.0 (sym f ∙ h) in cc), (λ h. f ∙ d.1 (cc)))
 
 here : (n : List ℕ) (p : Program) (ps : List Program) → p.name ≡ n → place n (p ∷ ps) ≡ Some 0
 here n p ps e = simp ((bytes_eq-Decides p.name n).1 e)

@@ -31,7 +31,7 @@ pub struct Signs {
 // The byte of a named character.
 fn spell<C: Code>(code: &C, named: char) -> u8
     requires { named_char named ≡ true }
-    ensures { result ≡ meaning.named named }
+    ensures { result ≡ C.meaning.named named }
 {
     code.byte_of(named).unwrap()
 }
@@ -39,7 +39,7 @@ fn spell<C: Code>(code: &C, named: char) -> u8
 // Puts the byte of each named character in its place.
 fn spell_each<C: Code>(code: &C, text: &mut [u8])
     requires { all_named text.old ≡ true }
-    ensures { text.new ≡ map meaning.named text.old }
+    ensures { text.new ≡ map C.meaning.named text.old }
 {
     for byte in text.iter_mut() {
         *byte = spell(code, *byte as char);
@@ -48,7 +48,7 @@ fn spell_each<C: Code>(code: &C, text: &mut [u8])
 
 // The signs of a code.
 pub fn read_signs<C: Code>(code: &C) -> Signs
-    ensures { SignsOf meaning result }
+    ensures { SignsOf C.meaning result }
 {
     let mut digits = *b"0123456789";
     spell_each(code, &mut digits);

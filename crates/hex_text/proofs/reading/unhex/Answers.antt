@@ -18,7 +18,7 @@ turn done (high ∷ low ∷ rest) byte long is = one_more done byte (unhexed res
 pub loop-left-preserved : goal.loop-left-preserved
 loop-left-preserved c =
     let left = c.loop-left.left.now in
-    let new = c.in-ok-push.ensures.items in
+    let new = c.in_ok-push.ensures.items in
     let all = take_all (length left - 2) (drop 2 left) (omega (arith, length-drop 2 left)) in
     let long : 2 ≤ length left = search rules in
     let more = turn (vec_items c.loop-left.bytes) left c.in-Some.byte long c.in-Some.ensures in

@@ -4,8 +4,8 @@ use Rattle.hex_text.specs.Hex.{hexed_byte}
 use Rattle.hex_text.proofs.Law.{reads_back}
 use Rattle.hex_text.proofs.writing.push_hex.Goals as goal
 
-pub returns-in-err-push-byte : goal.returns-in-err-push-byte
-returns-in-err-push-byte c = search (rules, reads_back)
+pub returns-in_err-push_byte : goal.returns-in_err-push_byte
+returns-in_err-push_byte c = search (rules, reads_back)
 
 pub loop-byte-preserved : goal.loop-byte-preserved
 loop-byte-preserved c =
@@ -13,7 +13,7 @@ loop-byte-preserved c =
     let i = c.loop-byte.byte-index in
     let one = take_more bytes i 0 (omega arith) in
     let all = flat_map_more hexed_byte (string_bytes c.args.out.now) (take i bytes) (get_or bytes i 0) in
-    let added = c.in-ok-push-byte.ensures in
+    let added = c.in_ok-push_byte.ensures in
     cc
 
 pub returns : goal.returns

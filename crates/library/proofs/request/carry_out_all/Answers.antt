@@ -4,14 +4,14 @@ use Rattle.library.specs.Operations.{operation}
 use Rattle.library.specs.Laws.{whole_space}
 use Rattle.library.proofs.Running.{underway_more, underway_all, counted, space_is_kept}
 use Rattle.library.proofs.request.carry_out_all.Goals as goal
-use Rattle.library.proofs.request.carry_out_all.Goals.{then-is-err, else-is-err}
+use Rattle.library.proofs.request.carry_out_all.Goals.{then-is_err, else-is_err}
 
 pub loop-request-preserved : goal.loop-request-preserved
 loop-request-preserved g c =
-    underway_more (operation g.S.Source.strings) c.args.requests.now _ _ _ _ _ _ c.request-item.result c.loop-request-test.true c.request-item.is c.carry-out.ensures.after
-    (elim c.if-is-err.branch [
-      | then-is-err w ↦ counted c.carry-out.result _ _ true _ _ c.carry-out.ensures.refusal c.is-err.ensures.value w.if-is-err.true w.refused-is
-      | else-is-err w ↦ counted c.carry-out.result _ _ false _ _ c.carry-out.ensures.refusal c.is-err.ensures.value w.if-is-err.false (w.refused-is ∙ omega arith)
+    underway_more (operation g.S.Source.strings) c.args.requests.now _ _ _ _ _ _ c.request-item.result c.loop-request-test.true c.request-item.is c.carry_out.ensures.after
+    (elim c.if-is_err.branch [
+      | then-is_err w ↦ counted c.carry_out.result _ _ true _ _ c.carry_out.ensures.refusal c.is_err.ensures.value w.if-is_err.true w.refused-is
+      | else-is_err w ↦ counted c.carry_out.result _ _ false _ _ c.carry_out.ensures.refusal c.is_err.ensures.value w.if-is_err.false (w.refused-is ∙ omega arith)
     ])
     c.loop-request.invariant
 

@@ -3,15 +3,15 @@ use Rattle.library.specs.Operations.{program_of}
 use Rattle.library.proofs.Storing.{delete_undoes_store, undone}
 use Rattle.library.proofs.using.try_out.Goals as goal
 
-pub returns-in-err-store : goal.returns-in-err-store
-returns-in-err-store g c =
-    let told = c.in-err-store.ensures in
-    let r = err_from_is_err_and c.from-residual.result c.from-residual.ensures.1 in
+pub returns-in_err-store : goal.returns-in_err-store
+returns-in_err-store g c =
+    let told = c.in_err-store.ensures in
+    let r = err_from_is_err_and c.from_residual.result c.from_residual.ensures.1 in
     rw (r.1, r.2) (record { refusal = told.refusal; same = told.after; law = delete_undoes_store })
 
 pub returns : goal.returns
 returns g c =
-    let stored = c.in-ok-store.ensures in
+    let stored = c.in_ok-store.ensures in
     let deleted = c.delete.ensures in
     let meaning = g.K.Reader.meaning in
     let p = program_of c.args.name.now (g.S.Source.strings c.args.strings.now) in
