@@ -4,7 +4,6 @@ ghost use Rattle.listing.specs.Adds.{Adds};
 ghost use Rattle.listing.specs.Listing.{head, code_line, count_lines, lock_line, space_line, string_count};
 
 use crate::glyphs::Glyphs;
-use crate::text::alloc_result;
 use library::{Reader, Space};
 use std::alloc::AllocError;
 
@@ -24,7 +23,7 @@ fn push_code_line<C: Glyphs>(out: &mut String, code: &C) -> Result<(), AllocErro
 {
     let number = code.number();
     let title = code.title();
-    alloc_result(writeln!(out, "code: {number} ({title})"))
+    writeln!(out, "code: {number} ({title})")
 }
 
 fn push_count_lines<R: Reader>(out: &mut String, library: &R) -> Result<(), AllocError>
@@ -32,14 +31,14 @@ fn push_count_lines<R: Reader>(out: &mut String, library: &R) -> Result<(), Allo
 {
     let programs = library.programs();
     let strings = count_strings(library);
-    alloc_result(writeln!(out, "programs: {programs}\nstrings: {strings}"))
+    writeln!(out, "programs: {programs}\nstrings: {strings}")
 }
 
 fn push_lock_line(out: &mut String, locked: bool) -> Result<(), AllocError>
     ensures { Adds out.old result out.new (lock_line locked) }
 {
     let answer = if locked { "yes" } else { "no" };
-    alloc_result(writeln!(out, "locked: {answer}"))
+    writeln!(out, "locked: {answer}")
 }
 
 fn push_space_line(out: &mut String, space: Space) -> Result<(), AllocError>
@@ -50,10 +49,10 @@ fn push_space_line(out: &mut String, space: Space) -> Result<(), AllocError>
         strings,
         bytes,
     } = space;
-    alloc_result(writeln!(
+    writeln!(
         out,
         "space left: {programs} programs, {strings} strings, {bytes} bytes"
-    ))
+    )
 }
 
 pub fn push_head<C: Glyphs, R: Reader>(

@@ -1,26 +1,15 @@
 // Bytes of a code, and numbers, as text.
-ghost use Rattle.std.specs.Prelude.{◌≡◌, ◌<◌, is_ok, decimal};
+ghost use Rattle.std.specs.Prelude.{◌≡◌, ◌<◌, decimal};
 ghost use Rattle.listing.specs.Adds.{Adds};
 ghost use Rattle.listing.specs.Listing.{hex_digit, shown_hex, shown_mark, shown_byte, shown_text};
 
 use crate::glyphs::Glyphs;
 use std::alloc::AllocError;
-use std::fmt;
-
-// A String refuses text only for want of memory.
-pub fn alloc_result(written: fmt::Result) -> Result<(), AllocError>
-    ensures { is_ok result ≡ is_ok written }
-{
-    match written {
-        Ok(()) => Ok(()),
-        Err(_) => Err(AllocError),
-    }
-}
 
 pub fn push_number(out: &mut String, n: usize) -> Result<(), AllocError>
     ensures { Adds out.old result out.new (decimal n) }
 {
-    alloc_result(write!(out, "{n}"))
+    write!(out, "{n}")
 }
 
 fn hex_digit(digit: u8) -> char
@@ -47,7 +36,7 @@ fn push_hex(out: &mut String, byte: u8) -> Result<(), AllocError>
 fn push_mark(out: &mut String, n: u8) -> Result<(), AllocError>
     ensures { Adds out.old result out.new (shown_mark n) }
 {
-    alloc_result(write!(out, "{{{n}}}"))
+    write!(out, "{{{n}}}")
 }
 
 // A byte by its glyph; the end of line, the marks and a byte without glyph in braces.

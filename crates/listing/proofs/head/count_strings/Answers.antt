@@ -9,7 +9,7 @@ pub loop-p-preserved : goal.loop-p-preserved
 loop-p-preserved g c =
     let ps = (g.R.Reader.meaning c.args.library.now).programs in
     let o = program_at ps c.loop-p.p in
-    let count = count_is o c.strings.result c.unwrap-or.result c.strings.ensures c.unwrap-or.ensures in
+    let count = count_is o c.strings.result c.unwrap_or.result c.strings.ensures c.unwrap_or.ensures in
     let more = string_count_more ps c.loop-p.p in
     (omega arith, omega arith)
 

@@ -2,13 +2,13 @@ use Rattle.std.proofs.Common.{sym, arith, rules}
 use Rattle.listing.specs.Listing.{shown_byte}
 use Rattle.listing.proofs.text.push_byte.Goals as goal
 
-pub returns-then-byte-end-of-line : goal.returns-then-byte-end-of-line
+pub returns-then-byte-end_of_line : goal.returns-then-byte-end_of_line
 unfolding shown_byte
-returns-then-byte-end-of-line g c = search rules
+returns-then-byte-end_of_line g c = search rules
 
-pub returns-then-byte-creation-mark : goal.returns-then-byte-creation-mark
+pub returns-then-byte-creation_mark : goal.returns-then-byte-creation_mark
 unfolding shown_byte
-returns-then-byte-creation-mark g c = search rules
+returns-then-byte-creation_mark g c = search rules
 
 pub returns-in-Some : goal.returns-in-Some
 unfolding shown_byte

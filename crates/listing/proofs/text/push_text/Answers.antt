@@ -9,7 +9,7 @@ loop-byte-preserved g c =
     let i = c.loop-byte.byte-index in
     let one = take_more text i 0 (omega arith) in
     let all = flat_map_more (shown_byte g.C.Code.meaning g.C.Glyphs.glyph) (string_bytes c.args.out.now) (take i text) (get_or text i 0) in
-    let added = c.in-ok-push-byte.ensures in
+    let added = c.in_ok-push_byte.ensures in
     cc
 
 pub returns : goal.returns
