@@ -1,6 +1,6 @@
 -- What is written in hex reads back.
-use Rattle.std.proofs.Common.{◌≡◌, ℕ, ◌+◌, ◌*◌, ◌/◌, ◌%◌, ◌<◌, ltb, List, [], ◌∷◌, Some, None, sym, refl, ap, ◌∙◌, arith}
-use Rattle.hex_text.specs.Hex.{digit_value, two_digits, digit_of, unhexed, hexed, hexed_byte, before, ReadsBack}
+use Rattle.std.proofs.Common.{◌≡◌, ℕ, ◌/◌, ◌%◌, ◌<◌, [], ◌∷◌, Some, refl, ap, arith}
+use Rattle.hex_text.specs.Hex.{digit_value, two_digits, digit_of, ReadsBack}
 use Rattle.std.proofs.lemmas.Bool.Decides.{nat_tests}
 
 digit_back : (d : ℕ) → d < 16 → digit_value (digit_of d) ≡ Some d

@@ -1,10 +1,9 @@
 -- Where the program of a name stands.
-use Rattle.std.proofs.Common.{◌≡◌, ℕ, zero, suc, ◌+◌, ◌<◌, Bool, true, false, cond, List, [], ◌∷◌, length, Some, None, Decides, Option, refl, sym, ap, ◌∙◌, add-one, arith, Bor, MatchOption}
+use Rattle.std.proofs.Common.{◌≡◌, ℕ, zero, suc, ◌+◌, ◌<◌, Bool, true, false, cond, List, [], ◌∷◌, length, Some, None, Decides, Option, refl, sym, ap, ◌∙◌, add-one, arith, Bor}
 use Rattle.std.specs.Option.{option_map, option_eq}
 use Rattle.std.specs.Str.{bytes_eq}
-use Rattle.std.proofs.lemmas.Slice.Eq.{bytes_eq-Decides, slice_eq-Decides}
+use Rattle.std.proofs.lemmas.Slice.Eq.{bytes_eq-Decides}
 use Rattle.library.specs.Meaning.{Program, Lawful, name_at, place}
-use Rattle.std.proofs.lemmas.Bool.Decides.{Decides-eqb}
 
 -- no program before k has the name n
 abbrev pub UnnamedBefore : List ℕ → List Program → ℕ → Type 0
