@@ -20,8 +20,8 @@ append-requires-in-loop-s g c =
     let front = bytes_front (c.loop-s.s + 1) ss in
     omega arith
 
-pub push-reserved-requires : goal.push-reserved-requires
-push-reserved-requires g c = omega arith
+pub push_reserved-requires : goal.push_reserved-requires
+push_reserved-requires g c = omega arith
 
 pub loop-s-preserved : goal.loop-s-preserved
 loop-s-preserved g c =

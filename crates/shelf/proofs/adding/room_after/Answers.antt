@@ -9,24 +9,24 @@ refused : (o : Option ℕ) (room size : ℕ) → o ≡ None → room < size → 
 refused o room size e h =
     let P : Option ℕ → Type 0 = λ v. MatchOption v (room < size) (λ left. left + size ≡ room) in subst P (sym e) h
 
-pub returns-in-err-left : goal.returns-in-err-left
-returns-in-err-left g c =
+pub returns-in_err-left : goal.returns-in_err-left
+returns-in_err-left g c =
     let ss = g.S.Source.strings c.args.strings.now in
     let next = bytes_next ss c.loop-s.s _ c.handed-text.ensures in
     let front = bytes_front (c.loop-s.s + 1) ss in
-    refused _ _ _ c.from-residual.ensures (omega (arith, c.in-err-left.ensures))
+    refused _ _ _ c.from_residual.ensures (omega (arith, c.in_err-left.ensures))
 
-pub returns-in-err-left-2 : goal.returns-in-err-left-2
-returns-in-err-left-2 g c =
+pub returns-in_err-left-2 : goal.returns-in_err-left-2
+returns-in_err-left-2 g c =
     let ss = g.S.Source.strings c.args.strings.now in
     let next = bytes_next ss c.loop-s.s _ c.handed-text.ensures in
     let front = bytes_front (c.loop-s.s + 1) ss in
-    refused _ _ _ c.from-residual-in-err-left-2.ensures (omega (arith, c.in-ok-left.ensures, c.in-err-left-2.ensures))
+    refused _ _ _ c.from_residual-in_err-left-2.ensures (omega (arith, c.in_ok-left.ensures, c.in_err-left-2.ensures))
 
 pub loop-s-preserved : goal.loop-s-preserved
 loop-s-preserved g c =
     let next = bytes_next (g.S.Source.strings c.args.strings.now) c.loop-s.s _ c.handed-text.ensures in
-    omega (arith, c.in-ok-left.ensures, c.in-ok-left-2.ensures)
+    omega (arith, c.in_ok-left.ensures, c.in_ok-left-2.ensures)
 
 pub returns : goal.returns
 returns g c =

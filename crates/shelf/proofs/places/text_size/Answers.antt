@@ -5,11 +5,11 @@ use Rattle.shelf.proofs.Packed.{no_string, row_text}
 use Rattle.shelf.proofs.Totals.{total_next, total_within}
 use Rattle.shelf.proofs.places.text_size.Goals as goal
 
-pub overflow-add-size : goal.overflow-add-size
-overflow-add-size c = omega (arith, total_within row_text c.args.rows.now c.loop-row.row-index no_string (omega arith))
+pub overflow_add-size : goal.overflow_add-size
+overflow_add-size c = omega (arith, total_within row_text c.args.rows.now c.loop-row.row-index no_string (omega arith))
 
-pub overflow-add-size-in-loop-row : goal.overflow-add-size-in-loop-row
-overflow-add-size-in-loop-row c = omega (arith, total_within row_text c.args.rows.now c.loop-row.row-index no_string (omega arith))
+pub overflow_add-size-in-loop-row : goal.overflow_add-size-in-loop-row
+overflow_add-size-in-loop-row c = omega (arith, total_within row_text c.args.rows.now c.loop-row.row-index no_string (omega arith))
 
 pub loop-row-preserved : goal.loop-row-preserved
 loop-row-preserved c = omega (arith, total_next row_text c.args.rows.now c.loop-row.row-index no_string (omega arith))

@@ -16,38 +16,38 @@ returns-then-program-programs c =
       there = tt;
     }
 
-pub overflow-add-middle : goal.overflow-add-middle
-overflow-add-middle c =
+pub overflow_add-middle : goal.overflow_add-middle
+overflow_add-middle c =
     let s = spanned c.args.program c.args.programs.now c.args.strings.now (omega arith) c.requires.rows.counted in
     omega arith
 
-pub overflow-add-end : goal.overflow-add-end
-overflow-add-end c =
+pub overflow_add-end : goal.overflow_add-end
+overflow_add-end c =
     let s = spanned c.args.program c.args.programs.now c.args.strings.now (omega arith) c.requires.rows.counted in
     omega arith
 
-pub slice-bounds-result-end : goal.slice-bounds-result-end
-slice-bounds-result-end c =
+pub slice_bounds-result-end : goal.slice_bounds-result-end
+slice_bounds-result-end c =
     let s = spanned c.args.program c.args.programs.now c.args.strings.now (omega arith) c.requires.rows.counted in
     omega arith
 
-pub offset-bounds-strings-string : goal.offset-bounds-strings-string
-offset-bounds-strings-string c =
+pub offset_bounds-strings-string : goal.offset_bounds-strings-string
+offset_bounds-strings-string c =
     let s = spanned c.args.program c.args.programs.now c.args.strings.now (omega arith) c.requires.rows.counted in
     omega arith
 
-pub slice-bounds-result-end-2 : goal.slice-bounds-result-end-2
-slice-bounds-result-end-2 c =
+pub slice_bounds-result-end-2 : goal.slice_bounds-result-end-2
+slice_bounds-result-end-2 c =
     let s = spanned c.args.program c.args.programs.now c.args.strings.now (omega arith) c.requires.rows.counted in
     omega arith
 
-pub slice-bounds-result-count-3 : goal.slice-bounds-result-count-3
-slice-bounds-result-count-3 c =
+pub slice_bounds-result-count-3 : goal.slice_bounds-result-count-3
+slice_bounds-result-count-3 c =
     let s = spanned c.args.program c.args.programs.now c.args.strings.now (omega arith) c.requires.rows.counted in
     omega arith
 
-pub slice-bounds-result-start-3 : goal.slice-bounds-result-start-3
-slice-bounds-result-start-3 c =
+pub slice_bounds-result-start-3 : goal.slice_bounds-result-start-3
+slice_bounds-result-start-3 c =
     let s = spanned c.args.program c.args.programs.now c.args.strings.now (omega arith) c.requires.rows.counted in
     omega arith
 
@@ -57,12 +57,12 @@ returns c =
     let ps = c.args.programs.now in
     let ss = c.args.strings.now in
     let bs = c.args.bytes.now in
-    let a = c.place-of-string.result.string in
-    let b = c.place-of-string.result.byte in
+    let a = c.place_of-string.result.string in
+    let b = c.place_of-string.result.byte in
     let h : p < length ps = omega arith in
     let s = spanned p ps ss h c.requires.rows.counted in
-    let same = c.place-of-string.ensures.string in
+    let same = c.place_of-string.ensures.string in
     record {
-      value = program_read p ps ss bs a b h same c.place-of-string.ensures.byte;
+      value = program_read p ps ss bs a b h same c.place_of-string.ensures.byte;
       there = rw take_rest (rw length-drop (omega (arith, part_size a (get_or ps p no_program).strings (first_string p ps) ss same)));
     }

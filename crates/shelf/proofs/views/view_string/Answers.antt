@@ -14,40 +14,40 @@ returns-then-string-rows c =
     let bs = c.args.texts.now in
     sym (slice_get_past (strings_in ss bs) c.args.string (omega (arith, length_strings ss bs)))
 
-pub text-size-start-requires : goal.text-size-start-requires
-text-size-start-requires c = omega (arith, total_front row_text (c.args.string - 0) c.args.rows.now)
+pub text_size-start-requires : goal.text_size-start-requires
+text_size-start-requires c = omega (arith, total_front row_text (c.args.string - 0) c.args.rows.now)
 
-pub overflow-add-middle : goal.overflow-add-middle
-overflow-add-middle c =
+pub overflow_add-middle : goal.overflow_add-middle
+overflow_add-middle c =
     let i = c.args.string in
     let ss = c.args.rows.now in
-    let start : c.text-size-start.result ≡ text_sizes (take i ss) = c.text-size-start.ensures ∙ ap (λ (k : ℕ). text_sizes (take k ss)) (whole i) in
+    let start : c.text_size-start.result ≡ text_sizes (take i ss) = c.text_size-start.ensures ∙ ap (λ (k : ℕ). text_sizes (take k ss)) (whole i) in
     omega (arith, total_within row_text ss i no_string (omega arith))
 
-pub overflow-add-end : goal.overflow-add-end
-overflow-add-end c =
+pub overflow_add-end : goal.overflow_add-end
+overflow_add-end c =
     let i = c.args.string in
     let ss = c.args.rows.now in
-    let start : c.text-size-start.result ≡ text_sizes (take i ss) = c.text-size-start.ensures ∙ ap (λ (k : ℕ). text_sizes (take k ss)) (whole i) in
+    let start : c.text_size-start.result ≡ text_sizes (take i ss) = c.text_size-start.ensures ∙ ap (λ (k : ℕ). text_sizes (take k ss)) (whole i) in
     omega (arith, total_within row_text ss i no_string (omega arith))
 
-pub slice-bounds-result-end : goal.slice-bounds-result-end
-slice-bounds-result-end c =
+pub slice_bounds-result-end : goal.slice_bounds-result-end
+slice_bounds-result-end c =
     let i = c.args.string in
     let ss = c.args.rows.now in
-    let start : c.text-size-start.result ≡ text_sizes (take i ss) = c.text-size-start.ensures ∙ ap (λ (k : ℕ). text_sizes (take k ss)) (whole i) in
+    let start : c.text_size-start.result ≡ text_sizes (take i ss) = c.text_size-start.ensures ∙ ap (λ (k : ℕ). text_sizes (take k ss)) (whole i) in
     omega (arith, total_within row_text ss i no_string (omega arith))
 
-pub slice-bounds-result-end-2 : goal.slice-bounds-result-end-2
-slice-bounds-result-end-2 c =
+pub slice_bounds-result-end-2 : goal.slice_bounds-result-end-2
+slice_bounds-result-end-2 c =
     let i = c.args.string in
     let ss = c.args.rows.now in
-    let start : c.text-size-start.result ≡ text_sizes (take i ss) = c.text-size-start.ensures ∙ ap (λ (k : ℕ). text_sizes (take k ss)) (whole i) in
+    let start : c.text_size-start.result ≡ text_sizes (take i ss) = c.text_size-start.ensures ∙ ap (λ (k : ℕ). text_sizes (take k ss)) (whole i) in
     omega (arith, total_within row_text ss i no_string (omega arith))
 
 pub returns : goal.returns
 returns c =
     let i = c.args.string in
     let ss = c.args.rows.now in
-    let start : c.text-size-start.result ≡ text_sizes (take i ss) = c.text-size-start.ensures ∙ ap (λ (k : ℕ). text_sizes (take k ss)) (whole i) in
-    string_read i ss c.args.texts.now c.text-size-start.result (omega arith) start
+    let start : c.text_size-start.result ≡ text_sizes (take i ss) = c.text_size-start.ensures ∙ ap (λ (k : ℕ). text_sizes (take k ss)) (whole i) in
+    string_read i ss c.args.texts.now c.text_size-start.result (omega arith) start

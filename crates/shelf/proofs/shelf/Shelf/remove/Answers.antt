@@ -25,8 +25,8 @@ cut-requires-2 c =
       within = omega arith;
     }
 
-pub invariant-of-self : goal.invariant-of-self
-invariant-of-self c =
+pub invariant_of-self : goal.invariant_of-self
+invariant_of-self c =
     let s = c.args.self.now in
     let p = c.args.program in
     let left = lost s p c.place-start.result c.place-end.result (vec_items c.cut-3.new.items) (vec_items c.cut-2.new.items) (vec_items c.cut.new.items) c.requires
@@ -34,7 +34,18 @@ invariant-of-self c =
     c.cut-3.ensures.items c.cut-2.ensures.items c.cut.ensures.items in
     let span = span_of s p c.requires in
     let lawful = subst Lawful (sym left.programs) (lawful_removed (programs_of s) p (lawful_of s)) in
-    (omega arith, (omega arith, (omega arith, (omega arith, (omega arith, (omega arith, (omega arith, (omega arith, (lawful.fit, (lawful.distinct, tt))))))))))
+    record {
+      programs_reserved = omega arith;
+      strings_reserved = omega arith;
+      bytes_reserved = omega arith;
+      programs_bounded = omega arith;
+      strings_bounded = omega arith;
+      bytes_bounded = omega arith;
+      counted = omega arith;
+      filled = omega arith;
+      fit = lawful.fit;
+      distinct = lawful.distinct;
+    }
 
 pub returns : goal.returns
 returns c =
