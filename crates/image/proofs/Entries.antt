@@ -1,11 +1,10 @@
 -- Entries and their 25 bytes, lines and their texts: each gives the other back.
-use Rattle.std.proofs.Common.{◌≡◌, ℕ, zero, suc, ◌+◌, ◌-◌, ◌*◌, ◌/◌, ◌%◌, ◌<◌, ◌≤◌, Bool, true, false, cond, not, ◌&&◌, ◌||◌, eqb, leb, List, [], ◌∷◌, ◌++◌, map, length, get_or, take, drop, replicate, sym, refl, ap, ◌∙◌, subst, div-add-mod', arith, take-add}
+use Rattle.std.proofs.Common.{◌≡◌, ℕ, zero, suc, ◌+◌, ◌-◌, ◌*◌, ◌/◌, ◌%◌, ◌<◌, ◌≤◌, Bool, true, eqb, leb, List, [], ◌∷◌, ◌++◌, map, length, get_or, take, drop, replicate, sym, refl, ap, ◌∙◌, subst, div-add-mod', arith, take-add}
 use lib.Arith.{digits_div, digits_mod}
 use Rattle.std.specs.List.{flat_map}
-use Rattle.std.proofs.lemmas.List.{append_assoc, append-nil, length-append, length-take-le, length-drop, take_at, drop_at, drop-drop, drop_more, drop-take, take-take, get_or-take, get_or-append_right, take-append-drop, length-replicate}
-use Rattle.std.proofs.lemmas.Bool.{and_parts, and_from, eqb-true, eq-eqb, leb-true, le-leb, both_ways}
+use Rattle.std.proofs.lemmas.List.{append_assoc, length-append, length-take-le, length-drop, take_at, drop_at, drop-drop, drop_more, drop-take, take-take, get_or-take, get_or-append_right, take-append-drop}
+use Rattle.std.proofs.lemmas.Bool.{and_parts, and_from, eqb-true, eq-eqb, leb-true, le-leb}
 use Rattle.code.specs.Meaning.{within}
-use Rattle.library.specs.Meaning.{NamedString}
 use Rattle.image.specs.Tests.{every}
 use Rattle.image.specs.Lines.{Line, line}
 use Rattle.image.specs.Layout.{Entry, entry_for, entry_bytes, text_bytes, two_bytes}

@@ -1,14 +1,14 @@
 -- The definition by questions and the one by layout say the same.
-use Rattle.std.proofs.Common.{◌≡◌, ℕ, zero, suc, ◌+◌, ◌-◌, ◌*◌, ◌<◌, ◌≤◌, Bool, true, false, cond, not, ◌&&◌, ◌||◌, eqb, ltb, leb, List, [], ◌∷◌, ◌++◌, map, length, get_or, take, drop, replicate, Some, None, Option, sym, refl, ap, ◌∙◌, subst, arith}
+use Rattle.std.proofs.Common.{◌≡◌, ℕ, zero, suc, ◌+◌, ◌-◌, ◌*◌, ◌<◌, ◌≤◌, Bool, true, false, eqb, leb, List, [], ◌∷◌, ◌++◌, map, length, get_or, take, drop, replicate, None, Option, sym, refl, ap, ◌∙◌, subst, arith}
 use Rattle.std.specs.List.{flat_map}
-use Rattle.std.proofs.lemmas.List.{append-nil, length-append, length-map, take_all, take_at, drop_at, drop-drop, get_or-drop, get_or-take, length-replicate, take-append-drop, length-take-le, length-drop, drop_all}
+use Rattle.std.proofs.lemmas.List.{append-nil, length-append, length-map, take_all, take_at, drop_at, get_or-drop, get_or-take, length-replicate, take-append-drop, length-take-le, length-drop}
 use Rattle.std.proofs.lemmas.Bool.{and_parts, and_from, eqb-true, eq-eqb, leb-true, le-leb, both_ways, lt-ltb, cond-true}
 use Rattle.code.specs.Meaning.{CodeMeaning, within}
 use Rattle.library.specs.Meaning.{Program, Lawful}
 use Rattle.refusal.specs.declared.Refusal.{Refusal}
 use Rattle.refusal.specs.Outcome.{kept_or}
 use Rattle.image.specs.Tests.{every}
-use Rattle.image.specs.Lines.{Line, line, listed, gathered}
+use Rattle.image.specs.Lines.{Line, listed, gathered}
 use Rattle.image.specs.Layout.{Entry, entry_for, entry_bytes, text_bytes, laid_out, laid_out_lines, KeepsRules, proper_bytes, short_texts}
 use Rattle.image.specs.Contents.{entries, first_entry, from_entry, Small, program_of, text_sizes, text_size, lines, line_at, programs_in}
 use Rattle.image.specs.Questions.{ask, well_named, adjacent, contents_refusal, complete, image_refusal}

@@ -1,11 +1,11 @@
 -- Loops that test each element of a list: one element on, at the first that fails, and at the end.
-use Rattle.std.proofs.Common.{◌≡◌, ℕ, zero, suc, ◌+◌, ◌*◌, ◌<◌, ◌≤◌, min, Bool, true, false, not, ◌&&◌, ◌||◌, List, [], ◌∷◌, map, length, get_or, take, drop, Decides, sym, refl, ap, ◌∙◌, ⊎_elim, add-one, arith, rules}
+use Rattle.std.proofs.Common.{◌≡◌, ℕ, zero, suc, ◌+◌, ◌*◌, ◌<◌, ◌≤◌, min, Bool, true, false, ◌&&◌, ◌||◌, List, [], map, length, get_or, take, drop, Decides, sym, refl, ap, ◌∙◌, ⊎_elim, add-one, arith, rules}
 use native.Mathlib.Nat.{min-eq_left, min-eq_right}
 use Rattle.std.proofs.lemmas.List.{at_drop_more, at_drop_all, drop-drop, length-map, get_or-map, take_all}
 use Rattle.std.specs.Str.{bytes_eq}
 use Rattle.std.proofs.lemmas.Slice.Eq.{bytes_eq-Decides}
 use Rattle.std.proofs.lemmas.Bool.{cases_lt}
-use Rattle.image.specs.Tests.{every, first_is, among}
+use Rattle.image.specs.Tests.{every, among}
 use Rattle.image.specs.Questions.{goes_on, adjacent}
 use Rattle.image.proofs.Entries.{length_entries, length_lines}
 use Rattle.image.specs.Layout.{Entry}

@@ -1,5 +1,5 @@
 -- What the bytes after an image's first two say, read from the front. Defined for any bytes.
-use Rattle.std.specs.Prelude.{ℕ, zero, suc, ◌+◌, ◌*◌, ◌<◌, List, [], ◌∷◌, length, take, drop, slice_index, slice_index_or}
+use Rattle.std.specs.Prelude.{ℕ, zero, suc, ◌+◌, ◌*◌, ◌<◌, List, [], ◌∷◌, take, drop, slice_index, slice_index_or}
 use Rattle.library.specs.Meaning.{Program}
 use Rattle.image.specs.Lines.{Line, line, gathered}
 use Rattle.image.specs.Layout.{Entry}

@@ -1,8 +1,8 @@
 -- The bytes of an image: its code's number, its count of strings, an entry of 25 bytes for each string, then each string's name and body.
 use Rattle.std.specs.Prelude.{◌≡◌, ℕ, ◌-◌, ◌/◌, ◌%◌, ◌≤◌, Bool, true, ◌&&◌, ◌||◌, List, [], ◌∷◌, ◌++◌, map, length, replicate, ◌==◌, nat_lt}
 use Rattle.std.specs.List.{flat_map}
-use Rattle.code.specs.Meaning.{CodeMeaning, within, marked}
-use Rattle.library.specs.Meaning.{Program, NamedString, Lawful}
+use Rattle.code.specs.Meaning.{CodeMeaning, marked}
+use Rattle.library.specs.Meaning.{Program, Lawful}
 use Rattle.image.specs.Tests.{every, not_empty}
 use Rattle.image.specs.Lines.{Line, listed}
 

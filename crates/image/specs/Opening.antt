@@ -1,5 +1,5 @@
 -- What opening an image comes to, by the questions and by the layout.
-use Rattle.std.specs.Prelude.{◌≡◌, ℕ, ◌*◌, ◌<◌, List, [], ◌∷◌, get_or, take, drop, Some, None, Option}
+use Rattle.std.specs.Prelude.{◌≡◌, ℕ, ◌*◌, List, [], ◌∷◌, take, drop, Some, None, Option}
 use Rattle.code.specs.Meaning.{CodeMeaning}
 use Rattle.refusal.specs.declared.Refusal.{Refusal}
 use Rattle.library.specs.Meaning.{Program, Library}

@@ -1,5 +1,5 @@
 -- The questions put to an image, in their order; the first that says no gives the refusal.
-use Rattle.std.specs.Prelude.{ℕ, ◌*◌, Bool, true, false, cond, not, ◌&&◌, ◌||◌, List, [], ◌∷◌, map, length, take, drop, Some, None, Option, ◌==◌, nat_eq, nat_le}
+use Rattle.std.specs.Prelude.{ℕ, ◌*◌, Bool, true, cond, not, ◌&&◌, ◌||◌, List, [], ◌∷◌, map, length, take, drop, Some, None, Option, ◌==◌, nat_eq, nat_le}
 use Rattle.code.specs.Meaning.{CodeMeaning, within}
 use Rattle.refusal.specs.declared.Refusal.{Refusal}
 use Rattle.refusal.specs.declared.Refusal.TheVariants.{WrongCode, ContentsIncomplete, ProgramNameMalformed, ProgramSplit, TextsMisfit, ForeignByte}

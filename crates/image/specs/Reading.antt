@@ -1,5 +1,5 @@
 -- What the code's views of an image mean.
-use Rattle.std.specs.Prelude.{ℕ, Bool, List}
+use Rattle.std.specs.Prelude.{ℕ, Bool}
 use Rattle.code.specs.Meaning.{CodeMeaning}
 use Rattle.image.specs.declared.entry.Entry.{Entry as EntryView}
 use Rattle.image.specs.declared.line.Line.{Line as LineView}

@@ -17,7 +17,7 @@ pub enum Part {
 
 // May the byte stand there? A name has characters; a body has characters, ends of lines and marks.
 fn is_allowed<C: Code>(code: &C, part: Part, byte: u8) -> bool
-    ensures { result ≡ allowed meaning part byte }
+    ensures { result ≡ allowed C.meaning part byte }
 {
     match part {
         Part::Name => code.is_character(byte),
@@ -31,7 +31,7 @@ fn is_allowed<C: Code>(code: &C, part: Part, byte: u8) -> bool
 }
 
 fn are_allowed<C: Code>(code: &C, part: Part, bytes: &[u8]) -> bool
-    ensures { result ≡ every (allowed meaning part) bytes.now }
+    ensures { result ≡ every (allowed C.meaning part) bytes.now }
 {
     for byte in bytes {
         if !is_allowed(code, part, *byte) {
@@ -42,7 +42,7 @@ fn are_allowed<C: Code>(code: &C, part: Part, bytes: &[u8]) -> bool
 }
 
 fn is_proper<C: Code>(code: &C, line: &Line) -> bool
-    ensures { result ≡ proper_bytes meaning (line_read line.now) }
+    ensures { result ≡ proper_bytes C.meaning (line_read line.now) }
 {
     are_allowed(code, Part::Name, line.program)
         && are_allowed(code, Part::Name, line.name)
@@ -54,7 +54,7 @@ pub fn are_proper<'a, C: Code>(code: &C, contents: &'a [u8], count: usize, texts
     requires few { count ≤ 128 }
     requires whole { 25 * count ≤ length contents.now }
     requires filled { text_sizes (entries count contents.now) ≡ length texts.now }
-    ensures { result ≡ every (proper_bytes meaning) (lines (entries count contents.now) texts.now) }
+    ensures { result ≡ every (proper_bytes C.meaning) (lines (entries count contents.now) texts.now) }
 {
     let mut start = 0usize;
     for i in 0..count {

@@ -23,7 +23,7 @@ fn check_contents<'a, C: Code>(
 ) -> Result<(), Refusal>
     requires few { count ≤ 128 }
     requires whole { 25 * count ≤ length contents.now }
-    ensures { result_err result ≡ refusal_of_contents meaning (entries count contents.now) texts.now }
+    ensures { result_err result ≡ refusal_of_contents C.meaning (entries count contents.now) texts.now }
 {
     if !are_well_named(contents, count) {
         return Err(Refusal::ProgramNameMalformed);
@@ -55,14 +55,14 @@ impl<'a> Image<'a> {
     // Opens the bytes of an image: puts the questions to them in their order, and holds their programs if none says no.
     // Refused, it is as before.
     pub fn open<C: Code>(&mut self, code: &C, image: &'a [u8]) -> Result<(), Refusal>
-        ensures opened { Opened meaning image.now (result_err result) (meaning_of self.old) (meaning_of self.new) }
+        ensures opened { Opened C.meaning image.now (result_err result) (meaning_of self.old) (meaning_of self.new) }
         ensures unique { LayoutIsUnique }
     {
         self.admit(code, image)
     }
 
     fn admit<C: Code>(&mut self, code: &C, image: &'a [u8]) -> Result<(), Refusal>
-        ensures refusal { result_err result ≡ refusal_of_image meaning image.now }
+        ensures refusal { result_err result ≡ refusal_of_image C.meaning image.now }
         ensures after { programs_held self.new ≡ kept_or (result_err result) (programs_of image.now) (programs_held self.old) }
     {
         let [number, count, rest @ ..] = image else {

@@ -1,5 +1,5 @@
 -- Bytes in hex, two digits to a byte. Assumes nothing.
-use Rattle.std.specs.Prelude.{◌≡◌, ℕ, ◌+◌, ◌-◌, ◌*◌, ◌<◌, Bool, cond, List, length, Some, None, Option, slice_index}
+use Rattle.std.specs.Prelude.{◌≡◌, ℕ, ◌+◌, ◌-◌, ◌*◌, ◌<◌, cond, List, length, Some, None, Option, slice_index}
 use Rattle.code.specs.Meaning.{within}
 
 -- the value of a digit, 0 to 9 and a to f

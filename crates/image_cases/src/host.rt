@@ -17,7 +17,7 @@ pub fn find_and_clear<C: Code>(
     buffer: &mut [u8],
     name: &[u8],
 ) -> Result<Option<usize>, Refusal>
-    ensures refusal { result_err result ≡ refusal_of_image meaning buffer.old }
+    ensures refusal { result_err result ≡ refusal_of_image C.meaning buffer.old }
     ensures found { IfOk result (λ k. k ≡ place name.now (programs_of buffer.old)) }
     ensures cleared { buffer.new ≡ kept_or (result_err result) (replicate (length buffer.old) 0) buffer.old }
 {

@@ -1,4 +1,4 @@
-use Rattle.std.proofs.Common.{◌≡◌, ℕ, ◌+◌, ◌<◌, ◌≤◌, List, [], length, drop, sym, ap, ◌∙◌, arith}
+use Rattle.std.proofs.Common.{ℕ, ◌+◌, ◌<◌, ◌≤◌, List, [], length, sym, ap, ◌∙◌, arith}
 use Rattle.std.specs.Str.{bytes_eq}
 use Rattle.std.proofs.lemmas.Slice.Eq.{slice_eq-Decides}
 use Rattle.std.proofs.lemmas.List.{at_drop_more, at_drop_all}
@@ -15,7 +15,7 @@ returns-then-i-count c =
     let bs = c.args.contents.now in
     let name = program_of (first_entry (from_entry i bs)) in
     let h : i + 1 < length (names_in n bs) = omega (arith, length_names n bs) in
-    tested _ _ (program_of (first_entry (from_entry (i + 1) bs))) name _ c.program-name.ensures c.program-name-then-i-count.ensures (slice_eq-Decides Decides-eqb _ _ _ c.eq.ensures)
+    tested _ _ (program_of (first_entry (from_entry (i + 1) bs))) name _ c.program_name.ensures c.program_name-then-i-count.ensures (slice_eq-Decides Decides-eqb _ _ _ c.eq.ensures)
     ∙ ap (λ (m : List ℕ). bytes_eq m name) (sym (name_there n bs (i + 1) (omega arith)))
     ∙ sym (at_drop_more (first_is name) (names_in n bs) (i + 1) [] h)
 

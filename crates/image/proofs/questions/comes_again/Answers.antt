@@ -1,4 +1,4 @@
-use Rattle.std.proofs.Common.{◌≡◌, ℕ, ◌+◌, ◌<◌, ◌≤◌, Bool, true, false, List, [], length, get_or, drop, sym, ap, ◌∙◌, arith}
+use Rattle.std.proofs.Common.{◌≡◌, ◌<◌, ◌≤◌, true, false, [], length, get_or, sym, ◌∙◌, arith}
 use Rattle.std.specs.Str.{bytes_eq}
 use Rattle.std.proofs.lemmas.Slice.Eq.{slice_eq-Decides}
 use Rattle.image.specs.Contents.{first_entry, from_entry, program_of}
@@ -14,7 +14,7 @@ returns-then-eq c =
     let name = program_of (first_entry (from_entry c.args.i bs)) in
     let h : j < length (names_in n bs) = omega (arith, length_names n bs) in
     let same : bytes_eq (get_or (names_in n bs) j []) name ≡ true =
-    sym (tested _ _ (get_or (names_in n bs) j []) name _ (c.program-name.ensures ∙ sym (name_there n bs j (omega arith))) c.program-name-name.ensures (slice_eq-Decides Decides-eqb _ _ _ c.eq.ensures))
+    sym (tested _ _ (get_or (names_in n bs) j []) name _ (c.program_name.ensures ∙ sym (name_there n bs j (omega arith))) c.program_name-name.ensures (slice_eq-Decides Decides-eqb _ _ _ c.eq.ensures))
     ∙ c.if-eq.true in
     sym (among_found name (names_in n bs) j h same) ∙ c.loop-j.invariant
 
@@ -26,7 +26,7 @@ loop-j-preserved c =
     let name = program_of (first_entry (from_entry c.args.i bs)) in
     let h : j < length (names_in n bs) = omega (arith, length_names n bs) in
     let other : bytes_eq (get_or (names_in n bs) j []) name ≡ false =
-    sym (tested _ _ (get_or (names_in n bs) j []) name _ (c.program-name.ensures ∙ sym (name_there n bs j (omega arith))) c.program-name-name.ensures (slice_eq-Decides Decides-eqb _ _ _ c.eq.ensures))
+    sym (tested _ _ (get_or (names_in n bs) j []) name _ (c.program_name.ensures ∙ sym (name_there n bs j (omega arith))) c.program_name-name.ensures (slice_eq-Decides Decides-eqb _ _ _ c.eq.ensures))
     ∙ c.if-eq.false in
     among_more name (names_in n bs) j h other ∙ c.loop-j.invariant
 

@@ -1,4 +1,4 @@
-use Rattle.std.proofs.Common.{◌≡◌, ◌+◌, ◌≤◌, drop}
+use Rattle.std.proofs.Common.{◌≡◌, ◌+◌, drop}
 use Rattle.image.specs.Tests.{among}
 use Rattle.image.specs.Contents.{first_entry, from_entry, program_of}
 use Rattle.image.proofs.Steps.{names_in}

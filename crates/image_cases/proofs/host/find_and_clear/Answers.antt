@@ -1,12 +1,12 @@
-use Rattle.std.proofs.Common.{sym, refl, ap, ◌∙◌}
+use Rattle.std.proofs.Common.{refl, ap, ◌∙◌}
 use Rattle.library.specs.Meaning.{Library, place}
 use Rattle.image_cases.proofs.host.find_and_clear.Goals as goal
 
 pub returns : goal.returns
 returns g c =
-    let opened = c.in-ok-open.ensures.opened in
+    let opened = c.in_ok-open.ensures.opened in
     record {
       refusal = opened.first_no;
-      found = c.find-program-found.ensures.place ∙ ap (λ (l : Library). place c.args.name.now l.programs) (opened.held refl);
+      found = c.find_program-found.ensures.place ∙ ap (λ (l : Library). place c.args.name.now l.programs) (opened.held refl);
       cleared = c.fill.ensures.after (λ y e. e);
     }

@@ -1,4 +1,4 @@
-use Rattle.std.proofs.Common.{◌≡◌, ℕ, ◌+◌, ◌<◌, ◌≤◌, true, false, length, ap, ◌∙◌, arith}
+use Rattle.std.proofs.Common.{◌≡◌, ◌<◌, ◌≤◌, length, ap, ◌∙◌, arith}
 use Rattle.image.specs.Finding.{lines_of}
 use Rattle.image.proofs.Finding.{rest_of, rest_all, joins_at, length_stays, length_ends, length_of_image, joins_image}
 use Rattle.image.proofs.granted.Image.count_programs.Goals as goal

@@ -1,4 +1,4 @@
-use Rattle.std.proofs.Common.{◌≡◌, ℕ, ◌+◌, ◌-◌, ◌<◌, ◌≤◌, true, false, List, length, Option, sym, ap, ◌∙◌, arith}
+use Rattle.std.proofs.Common.{◌≡◌, ◌+◌, ◌-◌, ◌<◌, ◌≤◌, false, List, length, Option, sym, ap, ◌∙◌, arith}
 use Rattle.library.specs.Meaning.{Program}
 use Rattle.image.specs.Finding.{line_in, line_of_program, lines_of}
 use Rattle.image.proofs.Finding.{rest_of, rest_all, joins_at, first_found, program_stays, program_ends, string_stays, string_ends, same_place, length_of_image, joins_image}

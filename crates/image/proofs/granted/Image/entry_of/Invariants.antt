@@ -1,4 +1,4 @@
-use Rattle.std.proofs.Common.{◌≡◌, drop}
+use Rattle.std.proofs.Common.{◌≡◌}
 use Rattle.image.specs.Finding.{line_in, lines_of}
 use Rattle.image.specs.Granting.{programs_held}
 use Rattle.image.proofs.Finding.{rest_of}
