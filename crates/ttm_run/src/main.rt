@@ -11,6 +11,7 @@ use anyhow::anyhow;
 use demo::DEMO;
 use failure::Failure;
 use show::text_of;
+use std::process::ExitCode;
 use std::{env, fs};
 
 fn print_image(rt: &HostRuntime, title: &str, image: &[u8]) -> anyhow::Result<()> {
@@ -40,10 +41,13 @@ fn run(rt: &HostRuntime) -> anyhow::Result<()> {
     }
 }
 
-fn main(rt: HostRuntime) -> anyhow::Result<()> {
-    let done = run(&rt);
-    if let Err(error) = &done {
-        eprintln!(rt; "{error}")?;
+// An error that main returned would be printed a second time.
+fn main(rt: HostRuntime) -> ExitCode {
+    match run(&rt) {
+        Ok(()) => ExitCode::SUCCESS,
+        Err(error) => {
+            eprintln!(rt; "{error}").ok();
+            ExitCode::FAILURE
+        }
     }
-    done
 }
