@@ -1,6 +1,6 @@
 -- Why an expansion stops: a question whose no is a shortage, or a fault. Each has its refusal, and a refusal its number.
 -- Assumes nothing.
-use Rattle.std.specs.Prelude.{◌≡◌, ◌≢◌}
+use Rattle.std.specs.Prelude.{◌≢◌}
 use Rattle.refusal.specs.Numbers.{number_of}
 use Rattle.refusal.specs.declared.Refusal.{Refusal}
 use Rattle.refusal.specs.declared.Refusal.TheVariants.{SourceTooLong, OutOfSteps, RollFull, Unmatched, CallOpen, FunctionUndefined, TooFewParameters, NoInteger, SignedInteger, TooManyDigits, ClassUndefined, NameUndefined, NotAString, ProgramNameLength, Locked, ProgramPresent, ProgramAbsent, LibraryFull, ForeignText, NoQuotient, NoMarkNumber, NoCreatedNumber, TooManyClasses, NamesFull, StoreFull, PrintFull, ScanFull}

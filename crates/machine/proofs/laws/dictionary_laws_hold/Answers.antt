@@ -5,11 +5,11 @@ pub returns : goal.returns
 returns c =
     record {
       defined = defined;
-      others-stay = kept_from_defined;
+      others_stay = kept_from_defined;
       distinct = defined_distinct;
       changed_distinct = changed_distinct;
       erased_distinct = erased_distinct;
       erased = erased;
-      others-last = kept_from_erased;
+      others_last = kept_from_erased;
       fetched = fetched_looked_up;
     }
