@@ -11,12 +11,10 @@ table = root / "crates/machine/specs/Examples.antt"
 
 HEAD = """-- The examples of docs/LANGUAGE.md: a source, and the text that comes of it, in ASCII, with a new processor and an empty shelf.
 -- Written by tests/language-examples.py. Assumes nothing.
-use mathlib.Core.Path.{_≡_}
-use mathlib.Core.List.{List, [], _∷_}
+use Rattle.std.specs.Prelude.{◌≡◌, List, [], ◌∷◌, codes}
 use Prim.Native.String.{String}
-use lib.Chars.{codes}
-use Rattle·std.specs.shelf.Lists.{All}
-use Rattle·machine·specs.Cases.{expanding, needing, answered}
+use Rattle.std.specs.List.{AllByRecursion}
+use Rattle.machine.specs.Cases.{expanding, needing, answered}
 
 pub record Example : Type 0 where
   pub source : String
@@ -25,12 +23,12 @@ pub record Example : Type 0 where
 abbrev pub becomes : String → String → Example
 becomes source text = record { source = source; text = text }
 
-pub record Comes-to (e : Example) : Type 0 where
-  pub completes : answered (expanding (e .source) (e .text) (needing 0 0 0 0 0)) .number ≡ 0
-  pub text-is : answered (expanding (e .source) (e .text) (needing 0 0 0 0 0)) .shown ≡ codes (e .text)
+pub record ComesTo (e : Example) : Type 0 where
+  pub completes : (answered (expanding e.source e.text (needing 0 0 0 0 0))).number ≡ 0
+  pub text_is : (answered (expanding e.source e.text (needing 0 0 0 0 0))).shown ≡ codes e.text
 
-abbrev pub Every-example-comes-out : Type 0
-Every-example-comes-out = All Comes-to examples
+abbrev pub EveryExampleComesOut : Type 0
+EveryExampleComesOut = AllByRecursion ComesTo examples
 
 """
 
@@ -43,8 +41,8 @@ in_tables = re.findall(r"^\| `([^`]*)` \| → `([^`]*)`", page, re.M)
 in_text = re.findall(r"(?<!\| )`([^`]*)` → `([^`]*)`", page)
 rows = [f"becomes {quoted(source)} {quoted(text)}" for source, text in in_tables + in_text]
 body = "abbrev pub examples : List Example\nexamples =\n    " + "\n    ∷ ".join(rows) + "\n    ∷ []\n"
-head, tail = HEAD.split("pub record Comes-to", 1)
-text = head + body + "\npub record Comes-to" + tail.rstrip("\n") + "\n"
+head, tail = HEAD.split("pub record ComesTo", 1)
+text = head + body + "\npub record ComesTo" + tail.rstrip("\n") + "\n"
 
 if sys.argv[1:] == ["write"]:
     table.write_text(text)

@@ -1,12 +1,11 @@
 -- Lists, strings and programs that are the same because their parts are.
-use Rattle.std.proofs.Common.{◌≡◌, ℕ, suc, ◌<◌, Bool, true, false, List, [], ◌∷◌, length, Some, None, Decides, Option, refl, ap, arith, Bor, MatchOption}
-use Rattle.std.specs.Option.{option_map}
-use Rattle.std.specs.Cmp.Lexicographic.{Matches}
+use Rattle.std.proofs.Common.{◌≡◌, ℕ, suc, ◌<◌, Bool, true, false, List, [], ◌∷◌, length, Some, None, Decides, Option, refl, sym, ◌∙◌, arith, Bor}
+use Rattle.std.specs.Option.{option_map, option_eq}
+use Rattle.std.specs.Str.{bytes_eq}
 use Rattle.std.specs.List.{slice_get}
-use Rattle.std.proofs.lemmas.Slice.Eq.{slice_eq-Decides}
+use Rattle.std.proofs.lemmas.Slice.Eq.{bytes_eq-Decides}
 use Rattle.std.proofs.lemmas.Bool.{both_ways}
 use Rattle.library.specs.Meaning.{NamedString, Program, strings_of}
-use Rattle.std.proofs.lemmas.Bool.Decides.{Decides-eqb}
 
 -- lists of one length that have the same at each place
 pub same_list : {X : Type 0} (xs ys : List X) → length xs ≡ length ys → ((k : ℕ) → k < length xs → slice_get xs k ≡ slice_get ys k) → xs ≡ ys
@@ -19,13 +18,13 @@ same_list (x ∷ xs) (y ∷ ys) long each =
     cc
 
 -- `==` between the bytes that two libraries answer tells whether they are the same
-pub compared : (o p : Option (Bor (List ℕ))) (m n : Option (List ℕ)) (t : Bool) → option_map (λ x. x.now) o ≡ m → option_map (λ x. x.now) p ≡ n → MatchOption o (MatchOption p (t ≡ true) (λ _. t ≡ false)) (λ x. MatchOption p (t ≡ false) (λ y. Matches (λ (a b : ℕ) (u : Bool). Decides u (a ≡ b)) x.now y.now t)) → Decides t (m ≡ n)
+pub compared : (o p : Option (Bor (List ℕ))) (m n : Option (List ℕ)) (t : Bool) → option_map (λ x. x.now) o ≡ m → option_map (λ x. x.now) p ≡ n → t ≡ option_eq (λ x y. bytes_eq x.now y.now) o p → Decides t (m ≡ n)
 compared None None m n t d e f = ((λ h. cc), (λ h. f))
 compared None (Some y) m n t d e f = ((λ h. cc), (λ h. cc))
 compared (Some x) None m n t d e f = ((λ h. cc), (λ h. cc))
 compared (Some x) (Some y) m n t d e f =
-    let told = slice_eq-Decides Decides-eqb x.now y.now t f in
-    ((λ h. let same : x.now ≡ y.now = told.0 h in cc), (λ h. told.1 (cc)))
+    let told = bytes_eq-Decides x.now y.now in
+    ((λ h. let same : x.now ≡ y.now = told.0 (sym f ∙ h) in cc), (λ h. f ∙ told.1 (cc)))
 
 -- strings, if there are any, that have the same name and the same body
 pub same_string : (s t : Option NamedString) → option_map (λ (x : NamedString). x.name) s ≡ option_map (λ (x : NamedString). x.name) t → option_map (λ (x : NamedString). x.body) s ≡ option_map (λ (x : NamedString). x.body) t → s ≡ t

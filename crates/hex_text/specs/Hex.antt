@@ -1,6 +1,6 @@
 -- Bytes as text in hex, two digits to a byte. Assumes nothing.
 use Rattle.std.specs.Prelude.{◌≡◌, ℕ, ◌+◌, ◌-◌, ◌*◌, ◌/◌, ◌%◌, ◌<◌, cond, ◌&&◌, List, [], ◌∷◌, Some, None, Option, nat_le, nat_lt}
-use Rattle.std.specs.List.{flat_map, AllByRecursion as All}
+use Rattle.std.specs.List.{flat_map, AllByRecursion}
 
 -- Reading.
 
@@ -39,4 +39,4 @@ hexed bytes = flat_map hexed_byte bytes
 
 -- What is written reads back.
 abbrev pub ReadsBack : Type 0
-ReadsBack = (bytes : List ℕ) → All (λ b. b < 256) bytes → unhexed (hexed bytes) ≡ Some bytes
+ReadsBack = (bytes : List ℕ) → AllByRecursion (λ b. b < 256) bytes → unhexed (hexed bytes) ≡ Some bytes

@@ -1,5 +1,5 @@
 // Answers in words.
-ghost use Rattle.std.specs.Prelude.{◌≡◌, is_ok};
+ghost use Rattle.std.specs.Prelude.{◌≡◌};
 ghost use Rattle.std.specs.Result.{result_err};
 ghost use Rattle.std.specs.List.{flat_map};
 ghost use Rattle.library.specs.Meaning.{program_at, string_at, strings_of};
@@ -10,24 +10,13 @@ ghost use Rattle.library_cases.specs.Showing.{shown_bytes, shown_string, shown_p
 use hex_text::push_hex;
 use library::{Reader, Space};
 use std::alloc::AllocError;
-use std::fmt;
-
-// A String refuses text only for want of memory.
-fn alloc_result(written: fmt::Result) -> Result<(), AllocError>
-    ensures { is_ok result ≡ is_ok written }
-{
-    match written {
-        Ok(()) => Ok(()),
-        Err(_) => Err(AllocError),
-    }
-}
 
 pub fn push_outcome(out: &mut String, done: Result<(), u8>) -> Result<(), AllocError>
     ensures { Adds out.old result out.new (shown_outcome (result_err done)) }
 {
     match done {
         Ok(()) => out.push_str("ok"),
-        Err(number) => alloc_result(write!(out, "refused {number}")),
+        Err(number) => write!(out, "refused {number}"),
     }
 }
 
@@ -35,7 +24,7 @@ pub fn push_place(out: &mut String, place: Option<usize>) -> Result<(), AllocErr
     ensures { Adds out.old result out.new (shown_place place) }
 {
     match place {
-        Some(place) => alloc_result(write!(out, "at {place}")),
+        Some(place) => write!(out, "at {place}"),
         None => out.push_str("absent"),
     }
 }
@@ -122,7 +111,7 @@ fn push_space(out: &mut String, space: Space) -> Result<(), AllocError>
         strings,
         bytes,
     } = space;
-    alloc_result(write!(out, " left {programs} {strings} {bytes}"))
+    write!(out, " left {programs} {strings} {bytes}")
 }
 
 // The whole library.

@@ -1,6 +1,6 @@
 -- Calls that 10 or 11 refuses, left out. Assumes nothing.
 use Rattle.std.proofs.Common.{◌≡◌, List, [], ◌∷◌, Some, None, Option, sym, refl, ap, ◌∙◌}
-use Rattle.std.specs.List.{AllByRecursion as All}
+use Rattle.std.specs.List.{AllByRecursion}
 use Rattle.refusal.specs.declared.Refusal.{Refusal}
 use Rattle.machine.specs.declared.amounts.Limits.{Limits}
 use Rattle.machine.specs.Texts.{Code}
@@ -13,7 +13,7 @@ kept p (c ∷ cs) = if_admitted (turned_away p c) c (kept p cs)
 
 -- 10 and 11 refuse none
 abbrev pub Passes : Limits → List Call → Type 0
-Passes p = All (λ c. turned_away p c ≡ None)
+Passes p = AllByRecursion (λ c. turned_away p c ≡ None)
 
 -- each allowance cut to the steps reported
 abbrev pub cut : List Call → List After → List Call

@@ -1,7 +1,7 @@
 -- The worked cases, by one computed test over the table. Assumes nothing.
 use Rattle.std.proofs.Common.{◌≡◌, ℕ, Bool, true, ◌&&◌, List, [], ◌∷◌, get_or, codes, refl, ap}
 use Rattle.std.specs.Fmt.{digits}
-use Rattle.std.specs.List.{AllByRecursion as All}
+use Rattle.std.specs.List.{AllByRecursion}
 use Rattle.std.specs.Str.{bytes_eq}
 use Rattle.std.proofs.lemmas.Slice.Eq.{bytes_eq-Decides}
 use Rattle.std.proofs.lemmas.Bool.{and_parts}
@@ -44,7 +44,7 @@ comes_out c t =
       needs_are = ap unlisted (equal (listed (answered c).needs) (listed c.needs) b.1);
     }
 
-each : (cs : List Case) → every passes cs ≡ true → All ComesOut cs
+each : (cs : List Case) → every passes cs ≡ true → AllByRecursion ComesOut cs
 each [] t = tt
 each (c ∷ cs) t =
     let both = and_parts (passes c) (every passes cs) t in

@@ -1,7 +1,7 @@
 -- The examples of the language page, by one computed test over the table. Assumes nothing.
 use Rattle.std.proofs.Common.{◌≡◌, ℕ, Bool, true, ◌&&◌, List, [], ◌∷◌, get_or, codes, refl, ap}
 use Rattle.std.specs.Fmt.{digits}
-use Rattle.std.specs.List.{AllByRecursion as All}
+use Rattle.std.specs.List.{AllByRecursion}
 use Rattle.std.specs.Str.{bytes_eq}
 use Rattle.std.proofs.lemmas.Bool.{and_parts}
 use Rattle.machine.specs.Texts.{every}
@@ -22,7 +22,7 @@ all_pass : every passes examples ≡ true
 unfolding answered step scanning expansion new_dictionary digits
 all_pass = refl
 
-each : (es : List Example) → every passes es ≡ true → All ComesTo es
+each : (es : List Example) → every passes es ≡ true → AllByRecursion ComesTo es
 each [] t = tt
 each (e ∷ es) t =
     let both = and_parts (passes e) (every passes es) t in

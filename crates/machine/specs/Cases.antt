@@ -1,7 +1,7 @@
 -- The table of worked cases: in ASCII, with a new processor and an empty shelf. Assumes nothing.
 use Rattle.std.specs.Prelude.{◌≡◌, ℕ, false, List, [], ◌∷◌, map, codes}
 use Prim.Native.String.{String}
-use Rattle.std.specs.List.{AllByRecursion as All}
+use Rattle.std.specs.List.{AllByRecursion}
 use Rattle.code.specs.Ascii.{ascii}
 use Rattle.library.specs.Meaning.{Library}
 use Rattle.machine.specs.declared.amounts.Amounts.{Amounts}
@@ -88,4 +88,4 @@ pub record ComesOut (c : Case) : Type 0 where
   pub needs_are : (answered c).needs ≡ c.needs
 
 abbrev pub EveryCaseComesOut : Type 0
-EveryCaseComesOut = All ComesOut cases
+EveryCaseComesOut = AllByRecursion ComesOut cases

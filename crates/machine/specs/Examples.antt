@@ -2,7 +2,7 @@
 -- Written by tests/language-examples.py. Assumes nothing.
 use Rattle.std.specs.Prelude.{◌≡◌, List, [], ◌∷◌, codes}
 use Prim.Native.String.{String}
-use Rattle.std.specs.List.{AllByRecursion as All}
+use Rattle.std.specs.List.{AllByRecursion}
 use Rattle.machine.specs.Cases.{expanding, needing, answered}
 
 pub record Example : Type 0 where
@@ -57,4 +57,4 @@ pub record ComesTo (e : Example) : Type 0 where
   pub text_is : (answered (expanding e.source e.text (needing 0 0 0 0 0))).shown ≡ codes e.text
 
 abbrev pub EveryExampleComesOut : Type 0
-EveryExampleComesOut = All ComesTo examples
+EveryExampleComesOut = AllByRecursion ComesTo examples

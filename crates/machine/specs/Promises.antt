@@ -1,7 +1,7 @@
 -- What is promised over lists of calls, for every code, every library and every list, refused calls included. A list starts
 -- at a new processor, made with its limits. Assumes nothing.
 use Rattle.std.specs.Prelude.{◌≡◌, ℕ, zero, suc, ◌-◌, ◌<◌, ◌≤◌, max, true, false, List, [], ◌∷◌, take, Some, None, Option, ◌≢◌}
-use Rattle.std.specs.List.{AllByRecursion as All}
+use Rattle.std.specs.List.{AllByRecursion}
 use Rattle.library.specs.Meaning.{Library}
 use Rattle.refusal.specs.Numbers.{number_of}
 use Rattle.refusal.specs.declared.Refusal.{Refusal}
@@ -34,7 +34,7 @@ pub record AShortageOf (k : Kind) (a : After) : Type 0 where
   pub numbered : a.replied.number ≡ number_of (shortage question)
 
 abbrev pub NoShortage : List After → Type 0
-NoShortage = All (λ a. AShortage a → ⊥)
+NoShortage = AllByRecursion (λ a. AShortage a → ⊥)
 
 -- RAISING LIMITS
 
@@ -180,7 +180,7 @@ EqualList p (c ∷ cs) [] = ⊥
 EqualList p (c ∷ cs) (d ∷ ds) = EqualCall p c d × EqualList p cs ds
 
 abbrev pub NoneWanted : List After → Type 0
-NoneWanted = All (λ a. a.wanted ≡ false)
+NoneWanted = AllByRecursion (λ a. a.wanted ≡ false)
 
 -- Earlier calls have left the dictionary emptied. Later calls are then equal to a new processor's that has the library as it
 -- is by then, as long as no value wants a created number.

@@ -1,8 +1,8 @@
 -- A draft that is stored and deleted leaves nothing behind.
-use Rattle.std.proofs.Common.{◌≡◌, ℕ, suc, ◌+◌, ◌-◌, Bool, true, false, cond, List, [], ◌∷◌, ◌++◌, length, take, drop, Some, None, Option, sym, refl, ap, ◌∙◌, append_assoc, add-one, arith, length-drop}
+use Rattle.std.proofs.Common.{◌≡◌, ℕ, suc, ◌+◌, ◌-◌, Bool, true, false, cond, List, [], ◌∷◌, ◌++◌, length, take, drop, Some, None, Option, refl, ap, ◌∙◌, append_assoc, add-one, arith, length-drop}
 use Rattle.std.specs.Option.{option_map}
 use Rattle.std.specs.Str.{bytes_eq}
-use Rattle.std.proofs.lemmas.List.{take_at, take_all, take-append-drop}
+use Rattle.std.proofs.lemmas.List.{take_all, take-append-drop}
 use Rattle.std.proofs.lemmas.Slice.Eq.{bytes_eq-Decides}
 use Rattle.refusal.specs.Outcome.{kept_or}
 use Rattle.refusal.specs.declared.Refusal.{Refusal}
@@ -14,7 +14,7 @@ use Rattle.exchange.specs.Stopping.{or_else, first_refusal, until_refused}
 use Rattle.exchange.specs.Copying.{between, stores}
 use Rattle.exchange.proofs.Stopping.{both_pass}
 use Rattle.exchange.proofs.InTurn.{stored_in_order}
-use Rattle.ttm_both.specs.Filling.{filling, DraftLeavesNothing}
+use Rattle.ttm_both.specs.Filling.{DraftLeavesNothing}
 
 -- a program between others, whose name none before it has: where it is found ..
 place_in : (xs ys : List Program) (p : Program) → place p.name xs ≡ None → place p.name (xs ++ p ∷ ys) ≡ Some (length xs)

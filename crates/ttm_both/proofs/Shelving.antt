@@ -1,5 +1,5 @@
 -- What the demonstration's shelf comes to, and its text.
-use Rattle.std.proofs.Common.{◌≡◌, ℕ, Bool, true, cond, List, [], ◌++◌, is_ok, IfOk, Some, None, Ok, Err, codes, Option, Result, sym, refl, ap, ◌∙◌}
+use Rattle.std.proofs.Common.{◌≡◌, ℕ, Bool, true, cond, List, [], ◌++◌, is_ok, IfOk, Some, None, Ok, Err, codes, Option, Result, sym, ap, ◌∙◌}
 use Rattle.std.specs.Option.{option_map}
 use Rattle.refusal.specs.declared.Refusal.{Refusal}
 use Rattle.library.specs.declared.program_name.ProgramName.{ProgramName}

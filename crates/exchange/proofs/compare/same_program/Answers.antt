@@ -6,9 +6,9 @@ use Rattle.exchange.proofs.compare.same_program.Goals as goal
 
 pub returns-then-eq : goal.returns-then-eq
 returns-then-eq g c =
-    second_decides c.eq.result c.same-strings.result
+    second_decides c.eq.result c.same_strings.result
     (compared _ _ _ _ _ c.name.ensures c.name-2.ensures c.eq.ensures)
-    c.same-strings.ensures
+    c.same_strings.ensures
     (same_program _ _)
     (ap strings_of)
     c.if-eq.true

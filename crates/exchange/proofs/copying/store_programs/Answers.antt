@@ -4,12 +4,12 @@ use Rattle.exchange.proofs.copying.store_programs.Goals as goal
 
 pub loop-program-preserved : goal.loop-program-preserved
 loop-program-preserved g c =
-    turn_on (g.K.Reader.meaning c.args.library.now) (g.K.Reader.meaning c.loop-program.library) (g.K.Reader.meaning c.store-program.new.library) c.args.first c.loop-program.program c.args.end (g.R.Reader.meaning c.args.from.now).programs c.loop-program-test.true c.in-ok-store-program.ensures c.loop-program.invariant
+    turn_on (g.K.Reader.meaning c.args.library.now) (g.K.Reader.meaning c.loop-program.library) (g.K.Reader.meaning c.store_program.new.library) c.args.first c.loop-program.program c.args.end (g.R.Reader.meaning c.args.from.now).programs c.loop-program-test.true c.in_ok-store_program.ensures c.loop-program.invariant
 
-pub returns-in-err-store-program : goal.returns-in-err-store-program
-returns-in-err-store-program g c =
-    let r = err_from_is_err_and c.from-residual.result c.from-residual.ensures.1 in
-    let told = turn_off (g.K.Reader.meaning c.args.library.now) (g.K.Reader.meaning c.loop-program.library) (g.K.Reader.meaning c.store-program.new.library) c.args.first c.loop-program.program c.args.end (g.R.Reader.meaning c.args.from.now).programs c.in-err-store-program.field-0.0 c.loop-program-test.true c.in-err-store-program.ensures c.loop-program.invariant in
+pub returns-in_err-store_program : goal.returns-in_err-store_program
+returns-in_err-store_program g c =
+    let r = err_from_is_err_and c.from_residual.result c.from_residual.ensures.1 in
+    let told = turn_off (g.K.Reader.meaning c.args.library.now) (g.K.Reader.meaning c.loop-program.library) (g.K.Reader.meaning c.store_program.new.library) c.args.first c.loop-program.program c.args.end (g.R.Reader.meaning c.args.from.now).programs c.in_err-store_program.field-0.0 c.loop-program-test.true c.in_err-store_program.ensures c.loop-program.invariant in
     rw (r.1, r.2) (record { stored = told; law = stored_in_order })
 
 pub returns : goal.returns

@@ -5,16 +5,16 @@ use Rattle.library_cases.specs.Commands.{by_verb_if}
 use Rattle.library_cases.proofs.Shapes.{line_if, line_not}
 use Rattle.library_cases.proofs.reading.parse.Goals as goal
 
-pub returns-in-default : goal.returns-in-default
-returns-in-default c =
-    let ws = c.as-slice.result.now in
+pub returns-in_default : goal.returns-in_default
+returns-in_default c =
+    let ws = c.as_slice.result.now in
     let short : length ws < 1 = search rules in
-    sym (line_not c.args.line.now (vec_items c.in-ok-words.words) ws c.in-ok-words.ensures c.as-slice.ensures.value short)
+    sym (line_not c.args.line.now (vec_items c.in_ok-words.words) ws c.in_ok-words.ensures c.as_slice.ensures.value short)
 
 pub returns-in-Some : goal.returns-in-Some
 returns-in-Some c =
-    let ws = c.as-slice.result.now in
+    let ws = c.as_slice.result.now in
     let long : 1 ≤ length ws = search rules in
-    let e = line_if c.args.line.now (vec_items c.in-ok-words.words) ws (record { ref_ptr = (0, 0); now = [] }) c.in-ok-words.ensures c.as-slice.ensures.value long in
+    let e = line_if c.args.line.now (vec_items c.in_ok-words.words) ws (record { ref_ptr = (0, 0); now = [] }) c.in_ok-words.ensures c.as_slice.ensures.value long in
     let at = ap (λ (v : Option Verb). by_verb_if v (texts (take (length ws - 1) (drop 1 ws)))) (sym c.in-Some.ensures) in
-    rw (e ∙ at) c.read-command.ensures
+    rw (e ∙ at) c.read_command.ensures

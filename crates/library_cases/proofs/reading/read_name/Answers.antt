@@ -4,11 +4,11 @@ use Rattle.library_cases.proofs.reading.read_name.Goals as goal
 use Rattle.library_cases.proofs.reading.read_name.Goals.{in-default-via-then-words-lt1, in-default-via-else-words-lt1+else-words-lt2}
 
 pub returns-in-len1 : goal.returns-in-len1
-returns-in-len1 c = rw (name_if c.args.words.now (record { ref_ptr = (0, 0); now = [] }) (search rules)) c.read-bytes.ensures
+returns-in-len1 c = rw (name_if c.args.words.now (record { ref_ptr = (0, 0); now = [] }) (search rules)) c.read_bytes.ensures
 
-pub returns-in-default : goal.returns-in-default
-returns-in-default c =
-    elim c.in-default.branch [
+pub returns-in_default : goal.returns-in_default
+returns-in_default c =
+    elim c.in_default.branch [
       | in-default-via-then-words-lt1 w ↦ let h : length c.args.words.now < 1 = search rules in sym (name_not c.args.words.now (λ e. omega arith))
       | in-default-via-else-words-lt1+else-words-lt2 w ↦ let h : 2 ≤ length c.args.words.now = search rules in sym (name_not c.args.words.now (λ e. omega arith))
     ]

@@ -19,20 +19,20 @@ loop-left-preserved c =
     let left = c.loop-left.left.now in
     let old = vec_items c.loop-left.texts in
     let text = c.in-Some.text in
-    let new = c.in-ok-push.ensures.items in
+    let new = c.in_ok-push.ensures.items in
     let long : 2 ≤ length left = search rules in
-    let more = turn (map named old) left (record { ref_ptr = (0, 0); now = [] }) (named text) long (sym c.in-ok-text.ensures ∙ ap (option_map named) c.in-Some.is) in
+    let more = turn (map named old) left (record { ref_ptr = (0, 0); now = [] }) (named text) long (sym c.in_ok-text.ensures ∙ ap (option_map named) c.in-Some.is) in
     let o = strings_in (texts (take (length left - 2) (drop 2 left))) in
     ap (λ (ss : List NamedString). option_map (λ (ts : List NamedString). ss ++ ts) o) (ap (map named) new ∙ map_push named old text) ∙ more ∙ c.loop-left.invariant
 
-pub returns-then-is-empty : goal.returns-then-is-empty
-returns-then-is-empty c =
+pub returns-then-is_empty : goal.returns-then-is_empty
+returns-then-is_empty c =
     let left = c.loop-left.left.now in
     let none : length left ≡ 0 = search rules in
     sym (all_read (map named (vec_items c.loop-left.texts)) left none) ∙ c.loop-left.invariant
 
-pub returns-else-is-empty : goal.returns-else-is-empty
-returns-else-is-empty c =
+pub returns-else-is_empty : goal.returns-else-is_empty
+returns-else-is_empty c =
     let left = c.loop-left.left.now in
     let one : length left ≡ 1 = search rules in
     sym (odd_word (map named (vec_items c.loop-left.texts)) left one) ∙ c.loop-left.invariant

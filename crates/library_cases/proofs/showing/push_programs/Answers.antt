@@ -7,7 +7,7 @@ use Rattle.library_cases.proofs.showing.push_programs.Goals as goal
 pub loop-p-preserved : goal.loop-p-preserved
 loop-p-preserved g c =
     let more = one_more_after shown_program (string_bytes c.args.out.now) (g.R.Reader.meaning c.args.library.now).programs c.loop-p.p in
-    let added = c.in-ok-push-program.ensures in
+    let added = c.in_ok-push_program.ensures in
     cc
 
 pub returns : goal.returns

@@ -10,12 +10,12 @@ pub loop-s-preserved : goal.loop-s-preserved
 loop-s-preserved g c =
     let o = program_at (g.R.Reader.meaning c.args.library.now).programs c.args.p in
     let more = one_more_after shown_string (string_bytes c.args.out.now) (strings_of o) c.loop-s.s in
-    let added = c.in-ok-push-string.ensures in
+    let added = c.in_ok-push_string.ensures in
     cc
 
 pub returns : goal.returns
 returns g c =
     let o = program_at (g.R.Reader.meaning c.args.library.now).programs c.args.p in
-    let count = count_is o c.strings.result c.unwrap-or-s-end.result c.strings.ensures c.unwrap-or-s-end.ensures in
+    let count = count_is o c.strings.result c.unwrap_or-s-end.result c.strings.ensures c.unwrap_or-s-end.ensures in
     let all = take_all c.loop-s.s (strings_of o) (omega arith) in
     cc

@@ -1,4 +1,4 @@
-use Rattle.std.proofs.Common.{List, string_bytes, refl, ap}
+use Rattle.std.proofs.Common.{string_bytes, refl, ap}
 use Rattle.std.proofs.lemmas.Result.{err_from_is_err_and}
 use Rattle.library.specs.Meaning.{Library}
 use Rattle.library.specs.Locked.{lock_meaning}
@@ -11,29 +11,29 @@ use Rattle.ttm_both.specs.Demonstration.{draft}
 use Rattle.ttm_both.proofs.Shelving.{image_refused, shelf_failed, none_refused, same_shown}
 use Rattle.ttm_both.proofs.demonstration.demonstrate.Goals as goal
 
-pub returns-in-err-open : goal.returns-in-err-open
-returns-in-err-open c =
-    let r = err_from_is_err_and c.from-residual.result c.from-residual.ensures.1 in
-    rw (r.1, r.2) (record { shown = tt; refused = image_refused c.in-err-open.field-0.0 _ _ c.in-err-open.ensures.opened.first_no })
+pub returns-in_err-open : goal.returns-in_err-open
+returns-in_err-open c =
+    let r = err_from_is_err_and c.from_residual.result c.from_residual.ensures.1 in
+    rw (r.1, r.2) (record { shown = tt; refused = image_refused c.in_err-open.field-0.0 _ _ c.in_err-open.ensures.opened.first_no })
 
-pub returns-in-err-shelf : goal.returns-in-err-shelf
-returns-in-err-shelf c =
-    let r = err_from_is_err_and c.from-residual-in-err-shelf.result c.from-residual-in-err-shelf.ensures.1 in
-    let opened = c.in-ok-open.ensures.opened in
+pub returns-in_err-shelf : goal.returns-in_err-shelf
+returns-in_err-shelf c =
+    let r = err_from_is_err_and c.from_residual-in_err-shelf.result c.from_residual-in_err-shelf.ensures.1 in
+    let opened = c.in_ok-open.ensures.opened in
     let same = ap (λ (l : Library). first_refusal empty_library (filling 2 draft l.programs)) (opened.held refl) in
-    rw (r.1, r.2) (record { shown = tt; refused = shelf_failed c.in-err-shelf.field-0.0 _ _ _ opened.first_no same c.in-err-shelf.ensures.refused })
+    rw (r.1, r.2) (record { shown = tt; refused = shelf_failed c.in_err-shelf.field-0.0 _ _ _ opened.first_no same c.in_err-shelf.ensures.refused })
 
-pub returns-in-err-push-both : goal.returns-in-err-push-both
-returns-in-err-push-both c =
-    let r = err_from_is_err_and c.from-residual-in-err-push-both.result c.from-residual-in-err-push-both.ensures.1 in
+pub returns-in_err-push_both : goal.returns-in_err-push_both
+returns-in_err-push_both c =
+    let r = err_from_is_err_and c.from_residual-in_err-push_both.result c.from_residual-in_err-push_both.ensures.1 in
     rw (r.1, r.2) (record { shown = tt; refused = tt })
 
 pub returns : goal.returns
 returns c =
-    let opened = c.in-ok-open.ensures.opened in
-    let shelf = c.in-ok-shelf.ensures in
+    let opened = c.in_ok-open.ensures.opened in
+    let shelf = c.in_ok-shelf.ensures in
     let same = ap (λ (l : Library). first_refusal empty_library (filling 2 draft l.programs)) (opened.held refl) in
     record {
-      shown = same_shown (image_meaning c.open.new.self) (lock_meaning shelf_meaning c.in-ok-shelf.shelf) (programs_of c.args.image.now) (string_bytes c.new-text.result) (string_bytes c.push-both.new.out) c.new-text.ensures.bytes (opened.held refl) shelf.same c.in-ok-push-both.ensures;
+      shown = same_shown (image_meaning c.open.new.self) (lock_meaning shelf_meaning c.in_ok-shelf.shelf) (programs_of c.args.image.now) (string_bytes c.new-text.result) (string_bytes c.push_both.new.out) c.new-text.ensures.bytes (opened.held refl) shelf.same c.in_ok-push_both.ensures;
       refused = none_refused _ _ _ opened.first_no same shelf.refused;
     }

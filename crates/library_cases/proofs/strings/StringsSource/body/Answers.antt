@@ -4,14 +4,14 @@ use Rattle.library.specs.Meaning.{NamedString}
 use Rattle.library_cases.proofs.HandedAt.{handed_at, handed_past}
 use Rattle.library_cases.proofs.strings.StringsSource.body.Goals as goal
 
-pub returns-in-err-text : goal.returns-in-err-text
-returns-in-err-text c =
-    let f = c.in-err-text.ensures.lookup in
+pub returns-in_err-text : goal.returns-in_err-text
+returns-in_err-text c =
+    let f = c.in_err-text.ensures.lookup in
     let past = handed_past (vec_items c.args.self.now.texts) c.deref.result.now c.args.string c.deref.ensures.value f.3 in
-    ap (option_map (λ (x : Bor (List ℕ)). x.now)) c.from-residual.ensures ∙ sym (ap (option_map (λ (s : NamedString). s.body)) past)
+    ap (option_map (λ (x : Bor (List ℕ)). x.now)) c.from_residual.ensures ∙ sym (ap (option_map (λ (s : NamedString). s.body)) past)
 
 pub returns : goal.returns
 returns c =
-    let f = c.in-ok-text.ensures.lookup in
-    let at = handed_at (vec_items c.args.self.now.texts) c.deref.result.now c.args.string c.in-ok-text.text.now c.deref.ensures.value f.3.0 f.1 in
-    ap (λ (bs : List ℕ). Some bs) c.as-slice.ensures.value ∙ sym (ap (option_map (λ (s : NamedString). s.body)) at)
+    let f = c.in_ok-text.ensures.lookup in
+    let at = handed_at (vec_items c.args.self.now.texts) c.deref.result.now c.args.string c.in_ok-text.text.now c.deref.ensures.value f.3.0 f.1 in
+    ap (λ (bs : List ℕ). Some bs) c.as_slice.ensures.value ∙ sym (ap (option_map (λ (s : NamedString). s.body)) at)
