@@ -1,8 +1,8 @@
 -- A line that is cut into words, one after another.
-use Rattle.std.proofs.Common.{◌≡◌, ℕ, zero, suc, ◌<◌, List, [], ◌∷◌, ◌++◌, length, get_or, sym, refl, ap, ◌∙◌, append_assoc, arith, Bor}
+use Rattle.std.proofs.Common.{◌≡◌, ℕ, suc, ◌<◌, List, [], ◌∷◌, ◌++◌, length, get_or, sym, refl, ap, ◌∙◌, append_assoc, arith, Bor}
 use Rattle.std.proofs.lemmas.List.{map_push}
 use Rattle.std.proofs.lemmas.Bool.{ne_eqb}
-use Rattle.library_cases.specs.Words.{words, texts, before_first}
+use Rattle.library_cases.specs.Words.{words, texts}
 
 -- there is no space
 abbrev pub NoSpace : List ℕ → Type 0

@@ -1,5 +1,5 @@
 -- What a library answers, and what it means after it.
-use Rattle.std.specs.Prelude.{ℕ, cond, List, Some, None, Option}
+use Rattle.std.specs.Prelude.{ℕ, cond, List, Some, Option}
 use Rattle.std.specs.Option.{option_map}
 use Rattle.refusal.specs.Numbers.{number_of}
 use Rattle.refusal.specs.declared.Refusal.{Refusal}

@@ -1,4 +1,4 @@
-use Rattle.std.proofs.Common.{ℕ, List, Some, vec_items, Option, sym, ap, ◌∙◌, Bor}
+use Rattle.std.proofs.Common.{ℕ, List, Some, vec_items, sym, ap, ◌∙◌, Bor}
 use Rattle.std.specs.Option.{option_map}
 use Rattle.library.specs.Meaning.{NamedString}
 use Rattle.library_cases.proofs.HandedAt.{handed_at, handed_past}

@@ -1,4 +1,4 @@
-use Rattle.std.proofs.Common.{ℕ, List, Some, vec_items, Option, sym, ap, ◌∙◌, MutBor}
+use Rattle.std.proofs.Common.{ℕ, List, Some, vec_items, sym, ap, ◌∙◌, Bor}
 use Rattle.std.specs.Option.{option_map}
 use Rattle.library.specs.Meaning.{NamedString}
 use Rattle.library_cases.proofs.HandedAt.{handed_at, handed_past}
@@ -8,7 +8,7 @@ pub returns-in_err-text : goal.returns-in_err-text
 returns-in_err-text c =
     let f = c.in_err-text.ensures.lookup in
     let past = handed_past (vec_items c.args.self.now.texts) c.deref.result.now c.args.string c.deref.ensures.value f.3 in
-    ap (option_map (λ (x : MutBor (List ℕ)). x.now)) c.from_residual.ensures ∙ sym (ap (option_map (λ (s : NamedString). s.name)) past)
+    ap (option_map (λ (x : Bor (List ℕ)). x.now)) c.from_residual.ensures ∙ sym (ap (option_map (λ (s : NamedString). s.name)) past)
 
 pub returns : goal.returns
 returns c =
