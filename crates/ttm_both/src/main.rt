@@ -12,6 +12,7 @@ use anyhow::anyhow;
 use demo::DEMO;
 use demonstration::demonstrate;
 use failure::Failure;
+use std::process::ExitCode;
 
 // Prints the text of an image of so many bytes, or says why there is none.
 fn print_text(
@@ -35,11 +36,14 @@ fn print_text(
     }
 }
 
-fn main(rt: HostRuntime) -> anyhow::Result<()> {
+// An error that main returned would be printed a second time.
+fn main(rt: HostRuntime) -> ExitCode {
     let text = demonstrate(rt.alloc(), &DEMO);
-    let done = print_text(&rt, "the demonstration image", DEMO.len(), text);
-    if let Err(error) = &done {
-        eprintln!(rt; "{error}")?;
+    match print_text(&rt, "the demonstration image", DEMO.len(), text) {
+        Ok(()) => ExitCode::SUCCESS,
+        Err(error) => {
+            eprintln!(rt; "{error}").ok();
+            ExitCode::FAILURE
+        }
     }
-    done
 }
