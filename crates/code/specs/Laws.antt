@@ -1,5 +1,5 @@
 -- One test that antt computes, and what it shows: a code that passes it keeps the laws. Assumes nothing.
-use Rattle.std.specs.Prelude.{◌≡◌, ℕ, zero, suc, ◌<◌, ◌≤◌, Bool, true, false, not, ◌&&◌, ◌||◌, ltb, List, [], ◌∷◌, Some, None, Option, ◌==◌, ◌≢◌, nat_le, nat_lt, refl}
+use Rattle.std.specs.Prelude.{◌≡◌, ℕ, zero, suc, ◌<◌, ◌≤◌, Bool, true, false, not, ◌&&◌, ◌||◌, List, [], ◌∷◌, Some, None, Option, ◌==◌, ◌≢◌, nat_le, nat_lt, refl}
 use Rattle.std.proofs.Common.{sym, ap, ⊎_elim, arith, lit<}
 use Rattle.std.proofs.lemmas.Bool.{false≢true, and_parts, and_from, or_cases, not-true, eqb-true, eqb-false, leb-true, le-leb, ltb-true, cases_eq, cases_order}
 use Rattle.code.specs.Meaning.{CodeMeaning, CodeLaws, within, named_char, ranked}
@@ -80,11 +80,11 @@ any n = true
 abbrev pub tests : CodeMeaning → List Test
 tests m =
     once (nat_lt m.number 256)
-    ∷ each 128 named_char (λ c. ltb (m.named c) 256)
+    ∷ each 128 named_char (λ c. nat_lt (m.named c) 256)
     ∷ once (nat_lt m.end_of_line 256)
-    ∷ each 63 (within 1 62) (λ n. ltb (m.segment_mark n) 256)
+    ∷ each 63 (within 1 62) (λ n. nat_lt (m.segment_mark n) 256)
     ∷ once (nat_lt m.creation_mark 256)
-    ∷ each 256 any (λ b. ltb (m.lower b) 256)
+    ∷ each 256 any (λ b. nat_lt (m.lower b) 256)
     ∷ each 128 named_char (λ c. m.character (m.named c))
     ∷ apart 128 named_char m.named
     ∷ once (not (m.character m.end_of_line))
@@ -98,7 +98,7 @@ tests m =
     ∷ each 256 m.character (λ b. m.character (m.lower b))
     ∷ once (m.lower m.end_of_line == m.end_of_line)
     ∷ apart 256 (ranked m) m.rank
-    ∷ each 256 m.character (λ b. ltb (m.rank m.end_of_line) (m.rank b))
+    ∷ each 256 m.character (λ b. nat_lt (m.rank m.end_of_line) (m.rank b))
     ∷ []
 
 abbrev pub all_pass : List Test → Bool

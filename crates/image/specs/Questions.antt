@@ -9,7 +9,7 @@ use Rattle.image.specs.Contents.{entries, program_of, text_sizes, lines}
 
 -- a question: if it says no, that is the refusal; else the next ones are put
 abbrev pub ask : Bool → Refusal → Option Refusal → Option Refusal
-ask yes-it-is refusal next = cond yes-it-is next (Some refusal)
+ask yes_it_is refusal next = cond yes_it_is next (Some refusal)
 
 -- is the program name 1 to 20 bytes long, and filled with zeros?
 abbrev pub well_named : Entry → Bool

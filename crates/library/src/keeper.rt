@@ -15,8 +15,8 @@ use refusal::Refusal;
 pub trait Keeper: Reader {
     // Adds a program at the end.
     fn store<S: Source>(&mut self, name: &ProgramName, strings: &S) -> Result<(), Refusal>
-        ensures refusal { result_err result ≡ refusal_of_store (Self.Reader.meaning self.old) (record { name = name_bytes name.entry.now; strings = S.Source.strings strings.now }) }
-        ensures after { Self.Reader.meaning self.new ≡ kept_or (result_err result) (with_program (Self.Reader.meaning self.old) (record { name = name_bytes name.entry.now; strings = S.Source.strings strings.now })) (Self.Reader.meaning self.old) };
+        ensures refusal { result_err result ≡ refusal_of_store (Self.Reader.meaning self.old) (record { name = name_bytes name.now; strings = S.Source.strings strings.now }) }
+        ensures after { Self.Reader.meaning self.new ≡ kept_or (result_err result) (with_program (Self.Reader.meaning self.old) (record { name = name_bytes name.now; strings = S.Source.strings strings.now })) (Self.Reader.meaning self.old) };
 
     // Removes the program of that name.
     fn delete(&mut self, name: &ProgramName) -> Result<(), Refusal>

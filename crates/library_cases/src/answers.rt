@@ -29,8 +29,8 @@ fn numbered(done: Result<(), Refusal>) -> Result<(), u8>
 }
 
 fn put<K: Keeper>(library: &mut K, name: &[u8], strings: &Strings) -> Result<(), u8>
-    ensures refusal { result_err result ≡ put_number (K.Reader.meaning library.old) (record { name = name.entry.now; strings = handed strings.now }) }
-    ensures after { K.Reader.meaning library.new ≡ after_put (K.Reader.meaning library.old) (record { name = name.entry.now; strings = handed strings.now }) }
+    ensures refusal { result_err result ≡ put_number (K.Reader.meaning library.old) (record { name = name.now; strings = handed strings.now }) }
+    ensures after { K.Reader.meaning library.new ≡ after_put (K.Reader.meaning library.old) (record { name = name.now; strings = handed strings.now }) }
 {
     match ProgramName::new(name) {
         Some(name) => numbered(library.store(&name, strings)),

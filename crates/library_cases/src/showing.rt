@@ -41,7 +41,7 @@ fn push_bytes(out: &mut String, bytes: &[u8]) -> Result<(), AllocError>
 
 // A string of this name and body.
 fn push_named(out: &mut String, name: &[u8], body: &[u8]) -> Result<(), AllocError>
-    ensures { Adds out.old result out.new (shown_string (record { name = name.entry.now; body = body.now })) }
+    ensures { Adds out.old result out.new (shown_string (record { name = name.now; body = body.now })) }
 {
     out.push_str(" ")?;
     push_bytes(out, name)?;

@@ -16,7 +16,7 @@ fn push_named<C: Glyphs>(
     name: &[u8],
     body: &[u8],
 ) -> Result<(), AllocError>
-    ensures { Adds out.old result out.new (shown_string C.Code.meaning C.Glyphs.glyph (record { name = name.entry.now; body = body.now })) }
+    ensures { Adds out.old result out.new (shown_string C.Code.meaning C.Glyphs.glyph (record { name = name.now; body = body.now })) }
 {
     out.push_str("  ")?;
     push_text(out, code, name)?;

@@ -156,7 +156,7 @@ let_pass : (b : Amounts) (t : Tally) (q : Question) (n : ℕ) (w : World) (x : R
     walk b t (ask q n w x) ≡ gave v u → walk b (passed (kind q) n t) x ≡ gave v u
 let_pass b t q n w x v u = go (leb n (amount (kind q) b))
   where
-    go : (yes-it-is : Bool) → cond yes-it-is (walk b (passed (kind q) n t) x) (stopped (shortage q) w t) ≡ gave v u →
+    go : (yes_it_is : Bool) → cond yes_it_is (walk b (passed (kind q) n t) x) (stopped (shortage q) w t) ≡ gave v u →
         walk b (passed (kind q) n t) x ≡ gave v u
     go true e = e
     go false e = absurd (never (cc))

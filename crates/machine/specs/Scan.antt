@@ -67,15 +67,15 @@ parameters s =
 
 -- the first that fits the front of the right text
 abbrev pub rule : Code → Bool → Text → Rule
-rule code within-call r =
+rule code within_call r =
     let front = λ (chars : List ℕ). begins (spelled code chars) r in
     cond (begins (code.end_of_line ∷ []) r) EndOfLine
     (cond (front (codes "@")) Escape
     (cond (front (codes "##<")) OpenPassive
     (cond (front (codes "#<")) OpenActive
     (cond (front (codes "<")) Bracket
-    (cond (within-call && front (codes ";")) Separator
-    (cond (within-call && front (codes ">")) Close
+    (cond (within_call && front (codes ";")) Separator
+    (cond (within_call && front (codes ">")) Close
     Other))))))
 
 -- n bytes of the right text are dropped, or move left

@@ -91,8 +91,8 @@ abbrev pub segment_string : Code → List Text → World → (ℕ → Text) → 
 segment_string code ps w value =
     of_string code (p1 ps) w (λ s.
     let g = segmented code ps s in
-    let marked-world = with_string (p1 ps) (with_rest g.marked_text s) w in
-    provided g.numbered no_mark_number marked-world (changing (value g.places) marked-world))
+    let marked_world = with_string (p1 ps) (with_rest g.marked_text s) w in
+    provided g.numbered no_mark_number marked_world (changing (value g.places) marked_world))
 
 -- CR: the creation mark for each match of p2
 abbrev pub mark_for_creation : Code → List Text → World → Outcome

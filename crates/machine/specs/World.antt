@@ -53,7 +53,7 @@ pub data Outcome : Type 0 where
 
 -- a question: if it says no, that is the fault
 abbrev pub provided : Bool → Fault → World → Outcome → Outcome
-provided yes-it-is f w next = cond yes-it-is next (faults f w)
+provided yes_it_is f w next = cond yes_it_is next (faults f w)
 
 -- a value, and nothing changes
 abbrev pub valued : Text → World → Outcome

@@ -72,7 +72,7 @@ fn add_strings<S: Source>(strings: &S, rows: &mut Vec<StringRow>, bytes: &mut Ve
 impl Shelf {
     // Is there space for a program of that name with these strings?
     pub(crate) fn has_space<S: Source>(&self, name: &[u8], strings: &S) -> bool
-        ensures { result ≡ fits (space_of (record { name = name.entry.now; strings = S.Source.strings strings.now })) (meaning_of self.now).space }
+        ensures { result ≡ fits (space_of (record { name = name.now; strings = S.Source.strings strings.now })) (meaning_of self.now).space }
     {
         let space = self.space();
         let Some(room) = space.bytes.checked_sub(name.len()) else {
@@ -88,7 +88,7 @@ impl Shelf {
         requires named { NameLength name.now }
         requires absent { is_some (place_in name.now (programs_of self.old)) ≡ false }
         requires fitting { fits (space_of (record { name = name.now; strings = S.Source.strings strings.now })) (meaning_of self.old).space ≡ true }
-        ensures { meaning_of self.new ≡ with_program (meaning_of self.old) (record { name = name.entry.now; strings = S.Source.strings strings.now }) }
+        ensures { meaning_of self.new ≡ with_program (meaning_of self.old) (record { name = name.now; strings = S.Source.strings strings.now }) }
     {
         append(&mut self.bytes, name);
         add_strings(strings, &mut self.strings, &mut self.bytes);
