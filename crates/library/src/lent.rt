@@ -1,6 +1,7 @@
 // A library that is lent to be changed is a library.
 use crate::reader::Reader;
 use crate::space::Space;
+use crate::string_view::StringView;
 
 impl<R: Reader> Reader for &mut R {
     ghost meaning = { λ lent. R.Reader.meaning lent.now };
@@ -19,12 +20,8 @@ impl<R: Reader> Reader for &mut R {
         (**self).strings(program)
     }
 
-    fn string_name(&self, program: usize, string: usize) -> Option<&[u8]> {
-        (**self).string_name(program, string)
-    }
-
-    fn string_body(&self, program: usize, string: usize) -> Option<&[u8]> {
-        (**self).string_body(program, string)
+    fn string(&self, program: usize, string: usize) -> Option<StringView<'_>> {
+        (**self).string(program, string)
     }
 
     fn space(&self) -> Space {

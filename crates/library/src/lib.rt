@@ -11,6 +11,7 @@ mod reader;
 mod request;
 mod shared;
 mod space;
+mod string_view;
 mod strings;
 mod using;
 
@@ -21,5 +22,6 @@ pub use program_name::ProgramName;
 pub use reader::Reader;
 pub use request::{Request, carry_out, carry_out_all};
 pub use space::Space;
-pub use strings::Source;
+pub use string_view::StringView;
+pub use strings::{Source, StringViews};
 pub use using::{store_and_find, try_out};

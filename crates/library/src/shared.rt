@@ -1,6 +1,7 @@
 // A library that is shared is a library, and strings that are shared are strings.
 use crate::reader::Reader;
 use crate::space::Space;
+use crate::string_view::StringView;
 use crate::strings::Source;
 
 impl<R: Reader> Reader for &R {
@@ -20,12 +21,8 @@ impl<R: Reader> Reader for &R {
         (**self).strings(program)
     }
 
-    fn string_name(&self, program: usize, string: usize) -> Option<&[u8]> {
-        (**self).string_name(program, string)
-    }
-
-    fn string_body(&self, program: usize, string: usize) -> Option<&[u8]> {
-        (**self).string_body(program, string)
+    fn string(&self, program: usize, string: usize) -> Option<StringView<'_>> {
+        (**self).string(program, string)
     }
 
     fn space(&self) -> Space {
@@ -44,11 +41,7 @@ impl<S: Source> Source for &S {
         (**self).count()
     }
 
-    fn name(&self, string: usize) -> Option<&[u8]> {
-        (**self).name(string)
-    }
-
-    fn body(&self, string: usize) -> Option<&[u8]> {
-        (**self).body(string)
+    fn string(&self, string: usize) -> Option<StringView<'_>> {
+        (**self).string(string)
     }
 }
