@@ -3,19 +3,20 @@
 #![tactic(auto)]
 
 mod keeper;
+mod lending;
 mod lent;
 mod lock;
 mod lookup;
 mod program_name;
 mod reader;
 mod request;
-mod shared;
 mod space;
 mod string_view;
 mod strings;
 mod using;
 
 pub use keeper::Keeper;
+pub use lending::Lends;
 pub use lock::Lock;
 pub use lookup::find_program;
 pub use program_name::ProgramName;
