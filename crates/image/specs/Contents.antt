@@ -1,7 +1,5 @@
 -- What the bytes after an image's first two say, read from the front. Defined for any bytes.
-use Rattle.std.specs.Prelude.{◌≡◌, ℕ, zero, suc, ◌+◌, ◌*◌, ◌<◌, List, [], ◌∷◌, map, length, take, drop, slice_index}
-use Rattle.std.specs.List.{prefix_len}
-use Rattle.std.specs.Str.{bytes_eq}
+use Rattle.std.specs.Prelude.{ℕ, zero, suc, ◌+◌, ◌*◌, List, [], ◌∷◌, map, take, drop, slice_index}
 use Rattle.library.specs.Meaning.{NamedString, Program}
 use Rattle.image.specs.Lines.{Line, line, gathered}
 use Rattle.image.specs.Layout.{Entry}
@@ -50,17 +48,6 @@ programs_in n contents texts = gathered (lines (entries n contents) texts)
 -- the same of rows of entries
 abbrev pub programs_of_rows : List (List ℕ) → List ℕ → List Program
 programs_of_rows rows texts = gathered (lines (entries_of_rows rows) texts)
-
--- how many rows from the first on are of its program
-abbrev pub program_len : List (List ℕ) → ℕ
-program_len [] = 0
-program_len (r ∷ rs) = suc (prefix_len (λ q. bytes_eq (program_of (first_entry q)) (program_of (first_entry r))) rs)
-
--- the rows of the first program, and those behind them
-pub record IsProgramSplit (rows own rest : List (List ℕ)) : Type 0 where
-  pub some : 0 < length rows
-  pub own_rows : own ≡ take (program_len rows) rows
-  pub other_rows : rest ≡ drop (program_len rows) rows
 
 abbrev pub strings_of : List Line → List NamedString
 strings_of ls = map (λ (l : Line). l.string) ls

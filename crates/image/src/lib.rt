@@ -6,7 +6,6 @@ mod contents;
 mod entry;
 mod granted;
 mod line;
-mod lookup;
 mod open;
 mod program;
 mod reading;

@@ -1,13 +1,16 @@
-// A program as it lies in an image.
-ghost use Rattle.std.specs.Prelude.{◌≡◌, ◌+◌, ◌≤◌, [], length, MatchOption};
+// The programs of an image, as they lie in it.
+ghost use Rattle.std.specs.Prelude.{◌≡◌, ◌+◌, ◌-◌, ◌≤◌, length};
 ghost use Rattle.std.specs.List.{prefix_len, slice_get};
 ghost use Rattle.std.specs.Str.{bytes_eq};
 ghost use Rattle.std.specs.Option.{option_map};
+ghost use Rattle.std.specs.Iterator.{YieldsFirstBy, at_most};
+ghost use Rattle.library.specs.Meaning.{program_at};
 ghost use Rattle.library.specs.Views.{string_viewed};
-ghost use Rattle.image.specs.Contents.{first_entry, entries_of_rows, program_of, text_sizes, IsProgramSplit};
+ghost use Rattle.image.specs.Contents.{first_entry, entries_of_rows, program_of, text_sizes};
 
 use crate::contents::text_size;
 use crate::entry::{Entry, EntryBytes};
+use crate::granted::Image;
 use crate::line::Line;
 use library::StringView;
 
@@ -20,15 +23,6 @@ fn count_strings(entries: &[EntryBytes], name: &[u8]) -> usize
         .iter()
         .take_while(|bytes| Entry { bytes: *bytes }.is_of(name))
         .count()
-}
-
-// The entries of the first program, and those behind them; `None` where there is no entry.
-pub fn split_program(entries: &[EntryBytes]) -> Option<(&[EntryBytes], &[EntryBytes])>
-    ensures { MatchOption result (entries.now ≡ []) (λ p. IsProgramSplit entries.now p.0.now p.1.now) }
-{
-    let (first, rest) = entries.split_first()?;
-    let name = Entry { bytes: first }.program();
-    Some(entries.split_at(1 + count_strings(rest, name)))
 }
 
 // A program's name, the entries before it, its own, and the texts of all entries.
@@ -55,5 +49,63 @@ impl<'a> ProgramView<'a> {
         let (_, texts) = self.texts.split_at(start);
         let (line, _) = Line::split(Entry { bytes }, texts);
         Some(line.string)
+    }
+}
+
+// The programs of an image from one of its entries on.
+#[derive(Clone, Copy)]
+pub struct Programs<'a> {
+    entries: &'a [EntryBytes],
+    texts: &'a [u8],
+    start: usize,
+    ghost few: { length entries.now ≤ 128 },
+    ghost filled: { text_sizes (entries_of_rows entries.now) ≡ length texts.now },
+    ghost within: { start ≤ length entries.now },
+}
+
+impl<'a> Image<'a> {
+    ghost use Rattle.image.specs.Programs.{program_viewed, programs_left};
+    ghost use Rattle.image.specs.Granting.{programs_held};
+
+    pub(crate) fn iter(&self) -> Programs<'a>
+        ensures { programs_left result ≡ programs_held self.now }
+    {
+        Programs {
+            entries: self.contents.entries,
+            texts: self.contents.texts,
+            start: 0,
+        }
+    }
+
+    // One of its programs, counted from 0.
+    pub(crate) fn program(&self, program: usize) -> Option<ProgramView<'a>>
+        ensures { option_map program_viewed result ≡ program_at (programs_held self.now) program }
+    {
+        self.iter().nth(program)
+    }
+}
+
+impl<'a> Iterator for Programs<'a> {
+    ghost use Rattle.image.specs.Programs.{program_viewed, programs_left};
+
+    type Item = ProgramView<'a>;
+
+    ghost next_gives = { YieldsFirstBy program_viewed programs_left };
+
+    ghost remaining = { λ p. at_most (length p.entries.now - p.start) };
+
+    fn next(&mut self) -> Option<ProgramView<'a>> {
+        let (before, left) = self.entries.split_at(self.start);
+        let (first, rest) = left.split_first()?;
+        let name = Entry { bytes: first }.program();
+        let (entries, _) = left.split_at(1 + count_strings(rest, name));
+        self.start += entries.len();
+        let texts = self.texts;
+        Some(ProgramView {
+            name,
+            before,
+            entries,
+            texts,
+        })
     }
 }

@@ -10,7 +10,7 @@ impl<'a> Reader for Image<'a> {
     ghost lawful = { λ image. record { fit = image.fit; distinct = image.distinct } };
 
     fn programs(&self) -> usize {
-        self.count_programs()
+        self.iter().count()
     }
 
     fn name(&self, program: usize) -> Option<&[u8]> {
