@@ -1,6 +1,6 @@
 -- Programs among rows of entries: their strings, one by one, and the first program before the others.
-use Rattle.std.proofs.Common.{◌≡◌, ℕ, zero, suc, ◌+◌, ◌<◌, ◌≤◌, Bool, cond, List, [], ◌∷◌, ◌++◌, length, get_or, take, drop, Some, None, sym, refl, ap, ◌∙◌, arith, take-add}
-use Rattle.std.specs.List.{slice_get, prefix_len}
+use Rattle.std.proofs.Common.{◌≡◌, ℕ, suc, ◌+◌, ◌≤◌, Bool, cond, List, [], ◌∷◌, ◌++◌, length, take, drop, sym, refl, ap, ◌∙◌, arith, take-add}
+use Rattle.std.specs.List.{prefix_len}
 use Rattle.std.specs.Str.{bytes_eq}
 use Rattle.std.proofs.lemmas.List.{drop-drop, take-append-drop}
 use Rattle.std.proofs.lemmas.Bool.{cond-true, cond-false}
@@ -10,32 +10,11 @@ use Rattle.image.specs.Contents.{first_entry, entries_of_rows, program_of, text_
 use Rattle.image.specs.Programs.{texts_behind}
 use Rattle.image.proofs.Gather.{by_joining}
 
--- 1. A string among the rows of its program.
-pub string_there : (rows : List (List ℕ)) (ts : List ℕ) (i : ℕ) (r : List ℕ) → i < length rows → r ≡ get_or rows i r →
-    slice_get (strings_of (lines (entries_of_rows rows) ts)) i ≡ Some (line_at (first_entry r) (drop (text_sizes (entries_of_rows (take i rows))) ts)).string
-string_there [] ts i r h e = absurd (omega arith)
-string_there (x ∷ rows) ts zero r h e = ap (λ (q : List ℕ). Some (line_at (first_entry q) ts).string) (sym e)
-string_there (x ∷ rows) ts (suc i) r h e =
-    string_there rows (drop (text_size (first_entry x)) ts) i r (omega arith) e
-    ∙ ap (λ (us : List ℕ). Some (line_at (first_entry r) us).string) (drop-drop (text_sizes (entries_of_rows (take i rows))) (text_size (first_entry x)) ts)
-
-pub string_past : (rows : List (List ℕ)) (ts : List ℕ) (i : ℕ) → length rows ≤ i → slice_get (strings_of (lines (entries_of_rows rows) ts)) i ≡ None
-string_past [] ts i h = refl
-string_past (x ∷ rows) ts zero h = absurd (omega arith)
-string_past (x ∷ rows) ts (suc i) h = string_past rows (drop (text_size (first_entry x)) ts) i (omega arith)
-
 pub length_strings : (rows : List (List ℕ)) (ts : List ℕ) → length (strings_of (lines (entries_of_rows rows) ts)) ≡ length rows
 length_strings [] ts = refl
 length_strings (x ∷ rows) ts = ap suc (length_strings rows (drop (text_size (first_entry x)) ts))
 
--- its texts lie within those of the rows
-pub sizes_there : (rows : List (List ℕ)) (i : ℕ) (r : List ℕ) → i < length rows → r ≡ get_or rows i r →
-    text_sizes (entries_of_rows (take i rows)) + text_size (first_entry r) ≤ text_sizes (entries_of_rows rows)
-sizes_there [] i r h e = absurd (omega arith)
-sizes_there (x ∷ rows) zero r h e = let s = ap (λ (q : List ℕ). text_size (first_entry q)) e in omega arith
-sizes_there (x ∷ rows) (suc i) r h e = let s = sizes_there rows i r (omega arith) e in omega arith
-
--- 2. The first program among rows, before the others.
+-- The first program among rows, before the others.
 abbrev pub same : List ℕ → List ℕ → Bool
 same r q = bytes_eq (program_of (first_entry q)) (program_of (first_entry r))
 
@@ -78,7 +57,7 @@ split r (q ∷ rs) ts =
     ∙ ap (λ (m : ℕ). alone ∷ programs_of_rows (q ∷ rs) (drop m ts)) (omega arith)
     ∙ ap (split_after r (q ∷ rs) ts) (sym (cond-false _ _ _ f)))
 
--- 3. One program after another.
+-- One program after another.
 text_sizes-append : (xs ys : List (List ℕ)) → text_sizes (entries_of_rows (xs ++ ys)) ≡ text_sizes (entries_of_rows xs) + text_sizes (entries_of_rows ys)
 text_sizes-append [] ys = omega arith
 text_sizes-append (x ∷ xs) ys = let s = text_sizes-append xs ys in omega arith

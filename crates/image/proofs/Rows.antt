@@ -1,8 +1,6 @@
 -- Tests and sums over the entries of rows, as loops over the rows make them.
 use Rattle.std.proofs.Common.{◌≡◌, ℕ, ◌+◌, Bool, ◌||◌, List, [], ◌∷◌, map, refl, ap, ◌∙◌, arith}
-use Rattle.std.specs.List.{list_any, list_all, sum_by, fold}
-use Rattle.std.proofs.lemmas.List.Folds.{list_all-map}
-use Rattle.image.specs.Questions.{well_named}
+use Rattle.std.specs.List.{list_any, sum_by, fold}
 use Rattle.std.specs.Str.{bytes_eq}
 use Rattle.image.specs.Tests.{among}
 use Rattle.image.specs.Contents.{first_entry, entries_of_rows, program_of, text_size, text_sizes}
@@ -17,6 +15,3 @@ from a (r ∷ rows) = from (a + text_size (first_entry r)) rows ∙ omega arith
 
 pub text_sizes-rows : (rows : List (List ℕ)) → sum_by (λ r. text_size (first_entry r)) rows ≡ text_sizes (entries_of_rows rows)
 text_sizes-rows rows = from 0 rows ∙ omega arith
-
-pub well_named_rows : (rows : List (List ℕ)) → list_all well_named (entries_of_rows rows) ≡ list_all (λ r. well_named (first_entry r)) rows
-well_named_rows rows = list_all-map well_named first_entry rows

@@ -1,16 +1,15 @@
 // The contents of an image: its entries, and the names and bodies of their strings.
 ghost use Rattle.std.specs.Prelude.{◌≡◌, ◌≤◌, map, length, MatchResult};
-ghost use Rattle.std.specs.List.{list_all, list_any};
+ghost use Rattle.std.specs.List.{list_all};
 ghost use Rattle.std.specs.Result.{result_err};
-ghost use Rattle.std.specs.Str.{bytes_eq};
-ghost use Rattle.image.specs.Tests.{first_is};
+ghost use Rattle.image.specs.Tests.{first_is, among};
 ghost use Rattle.image.specs.Layout.{proper_bytes};
 ghost use Rattle.image.specs.Contents.{first_entry, entries_of_rows, program_of, text_sizes, lines};
 ghost use Rattle.image.specs.Questions.{well_named, goes_on as goes_on_in, adjacent, contents_refusal as refusal_of_contents, image_refusal};
 ghost use Rattle.image.specs.Cutting.{IsCut};
 
 use crate::entry::{Entry, EntryBytes};
-use crate::line::Line;
+use crate::line::Lines;
 use code::Code;
 use refusal::Refusal;
 
@@ -36,7 +35,7 @@ fn comes_next(entries: &[EntryBytes], name: &[u8]) -> bool
 
 // Is any of them?
 fn comes_again(entries: &[EntryBytes], name: &[u8]) -> bool
-    ensures { result ≡ list_any (λ r. bytes_eq (program_of (first_entry r)) name.now) entries.now }
+    ensures { result ≡ among name.now (map program_of (entries_of_rows entries.now)) }
 {
     entries.iter().any(|bytes| Entry { bytes }.is_of(name))
 }
@@ -65,7 +64,7 @@ fn are_adjacent(entries: &[EntryBytes]) -> bool
 
 // Are all program names 1 to 20 bytes long, and filled with zeros?
 fn are_well_named(entries: &[EntryBytes]) -> bool
-    ensures { result ≡ list_all (λ r. well_named (first_entry r)) entries.now }
+    ensures { result ≡ list_all well_named (entries_of_rows entries.now) }
 {
     entries.iter().all(|bytes| Entry { bytes }.is_well_named())
 }
@@ -103,21 +102,14 @@ impl<'a> Contents<'a> {
         requires { text_sizes (entries_of_rows self.now.entries.now) ≡ length self.now.texts.now }
         ensures { result ≡ list_all (proper_bytes C.meaning) (lines (entries_of_rows self.now.entries.now) self.now.texts.now) }
     {
-        let mut entries = self.entries;
-        let mut texts = self.texts;
-        while let Some((first, rest)) = entries.split_first() {
-            let (line, behind) = Line::split(Entry { bytes: first }, texts);
-            if !line.is_proper(code) {
-                return false;
-            }
-            entries = rest;
-            texts = behind;
-        }
-        true
+        let mut lines = Lines {
+            entries: self.entries,
+            texts: self.texts,
+        };
+        lines.all(|line| line.is_proper(code))
     }
 
     // Puts the questions to the contents, in their order.
-    #[tactic(auto, using(crate::proofs::Rows::well_named_rows))]
     pub fn check<C: Code>(&self, code: &C) -> Result<(), Refusal>
         ensures { result_err result ≡ refusal_of_contents C.meaning (entries_of_rows self.now.entries.now) self.now.texts.now }
     {

@@ -1,12 +1,12 @@
 // The lines of an image: each string beside the name of its program.
 ghost use Rattle.std.specs.Prelude.{◌≡◌, ◌≤◌, length, drop};
 ghost use Rattle.std.specs.List.{list_all};
+ghost use Rattle.std.specs.Iterator.{YieldsFirstBy, at_most};
 ghost use Rattle.code.specs.Meaning.{body_byte};
 ghost use Rattle.image.specs.Layout.{proper_bytes};
-ghost use Rattle.image.specs.Contents.{text_size, line_at};
-ghost use Rattle.image.specs.Reading.{entry_read, line_read};
+ghost use Rattle.image.specs.Contents.{entries_of_rows, text_size, text_sizes, line_at};
 
-use crate::entry::Entry;
+use crate::entry::{Entry, EntryBytes};
 use code::Code;
 use library::StringView;
 
@@ -40,6 +40,8 @@ fn are_body_bytes<C: Code>(code: &C, bytes: &[u8]) -> bool
 }
 
 impl<'a> Line<'a> {
+    ghost use Rattle.image.specs.Reading.{entry_read, line_read};
+
     // The line of an entry, whose name and body begin the texts, and the texts behind them.
     pub fn split(entry: Entry<'a>, texts: &'a [u8]) -> (Line<'a>, &'a [u8])
         requires { text_size (entry_read entry) ≤ length texts.now }
@@ -63,5 +65,33 @@ impl<'a> Line<'a> {
         are_characters(code, self.program)
             && are_characters(code, self.string.name)
             && are_body_bytes(code, self.string.body)
+    }
+}
+
+// The lines of entries whose names and bodies follow one another in the texts.
+#[derive(Drop)]
+pub struct Lines<'a> {
+    pub entries: &'a [EntryBytes],
+    pub texts: &'a [u8],
+    ghost enough: { text_sizes (entries_of_rows entries.now) ≤ length texts.now },
+}
+
+impl<'a> Iterator for Lines<'a> {
+    ghost use Rattle.image.specs.Reading.{line_read, lines_left};
+
+    type Item = Line<'a>;
+
+    ghost next_gives = { YieldsFirstBy line_read lines_left };
+
+    ghost remaining = { λ l. at_most (length l.entries.now) };
+
+    fn next(&mut self) -> Option<Line<'a>> {
+        let (first, rest) = self.entries.split_first()?;
+        let (line, texts) = Line::split(Entry { bytes: first }, self.texts);
+        *self = Lines {
+            entries: rest,
+            texts,
+        };
+        Some(line)
     }
 }

@@ -11,7 +11,7 @@ ghost use Rattle.image.specs.Contents.{first_entry, entries_of_rows, program_of,
 use crate::contents::text_size;
 use crate::entry::{Entry, EntryBytes};
 use crate::granted::Image;
-use crate::line::Line;
+use crate::line::Lines;
 use library::StringView;
 
 // How many entries from the first on are of the program of that name.
@@ -43,17 +43,18 @@ impl<'a> ProgramView<'a> {
     pub fn string(&self, string: usize) -> Option<StringView<'a>>
         ensures { option_map string_viewed result ≡ slice_get (program_viewed self.now).strings string }
     {
-        let bytes = self.entries.get(string)?;
-        let own = self.entries;
-        let start = text_size(self.before) + text_size(&own[..string]);
-        let (_, texts) = self.texts.split_at(start);
-        let (line, _) = Line::split(Entry { bytes }, texts);
+        let (_, texts) = self.texts.split_at(text_size(self.before));
+        let mut lines = Lines {
+            entries: self.entries,
+            texts,
+        };
+        let line = lines.nth(string)?;
         Some(line.string)
     }
 }
 
 // The programs of an image from one of its entries on.
-#[derive(Clone, Copy)]
+#[derive(Drop)]
 pub struct Programs<'a> {
     entries: &'a [EntryBytes],
     texts: &'a [u8],
