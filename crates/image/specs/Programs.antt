@@ -17,4 +17,6 @@ program_viewed v = record {
 
 -- the programs that an iterator has left
 abbrev pub programs_left : Programs → List Program
-programs_left p = programs_of_rows (drop p.start p.entries.now) (texts_behind (take p.start p.entries.now) p.texts.now)
+programs_left p =
+    let contents = p.image.contents in
+    programs_of_rows (drop p.start contents.entries.now) (texts_behind (take p.start contents.entries.now) contents.texts.now)

@@ -47,7 +47,7 @@ impl<'a> Entry<'a> {
         let bytes = self.bytes;
         let length = usize::from(bytes[0]);
         let field = &bytes[1..21];
-        if length < 1 || length > 20 {
+        if !(1..=20).contains(&length) {
             return false;
         }
         all_zero(&field[length..])

@@ -8,7 +8,7 @@ ghost use Rattle.library.specs.Meaning.{program_at};
 ghost use Rattle.library.specs.Views.{string_viewed};
 ghost use Rattle.image.specs.Contents.{first_entry, entries_of_rows, program_of, text_sizes};
 
-use crate::contents::text_size;
+use crate::contents::{Contents, text_size};
 use crate::entry::{Entry, EntryBytes};
 use crate::granted::Image;
 use crate::line::Lines;
@@ -56,12 +56,9 @@ impl<'a> ProgramView<'a> {
 // The programs of an image from one of its entries on.
 #[derive(Drop)]
 pub struct Programs<'a> {
-    entries: &'a [EntryBytes],
-    texts: &'a [u8],
+    image: Image<'a>,
     start: usize,
-    ghost few: { length entries.now ≤ 128 },
-    ghost filled: { text_sizes (entries_of_rows entries.now) ≡ length texts.now },
-    ghost within: { start ≤ length entries.now },
+    ghost within: { start ≤ length image.contents.entries.now },
 }
 
 impl<'a> Image<'a> {
@@ -72,8 +69,7 @@ impl<'a> Image<'a> {
         ensures { programs_left result ≡ programs_held self.now }
     {
         Programs {
-            entries: self.contents.entries,
-            texts: self.contents.texts,
+            image: *self,
             start: 0,
         }
     }
@@ -93,19 +89,19 @@ impl<'a> Iterator for Programs<'a> {
 
     ghost next_gives = { YieldsFirstBy program_viewed programs_left };
 
-    ghost remaining = { λ p. at_most (length p.entries.now - p.start) };
+    ghost remaining = { λ p. at_most (length p.image.contents.entries.now - p.start) };
 
     fn next(&mut self) -> Option<ProgramView<'a>> {
-        let (before, left) = self.entries.split_at(self.start);
+        let Contents { entries, texts } = self.image.contents;
+        let (before, left) = entries.split_at(self.start);
         let (first, rest) = left.split_first()?;
         let name = Entry { bytes: first }.program();
-        let (entries, _) = left.split_at(1 + count_strings(rest, name));
-        self.start += entries.len();
-        let texts = self.texts;
+        let (own, _) = left.split_at(1 + count_strings(rest, name));
+        self.start += own.len();
         Some(ProgramView {
             name,
             before,
-            entries,
+            entries: own,
             texts,
         })
     }

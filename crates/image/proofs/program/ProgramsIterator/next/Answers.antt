@@ -9,7 +9,7 @@ use Rattle.image.proofs.program.ProgramsIterator.next.Goals as goal
 
 pub invariant_of-result : goal.invariant_of-result
 invariant_of-result c =
-    let rows = c.args.self.now.entries.now in
+    let rows = c.args.self.now.image.contents.entries.now in
     let i = c.args.self.now.start in
     let n = 1 + c.count_strings.result in
     let size : List (List ℕ) → ℕ = λ xs. text_sizes (entries_of_rows xs) in
@@ -17,14 +17,14 @@ invariant_of-result c =
     let own : size c.split_at-2.result.0.now ≡ size (take n (drop i rows)) =
     ap size c.split_at-2.ensures.front ∙ ap (λ (xs : List (List ℕ)). size (take n xs)) c.split_at.ensures.back in
     record {
-      few = omega (arith, c.args.self.now.few, c.split_at.ensures.front_len, c.split_at.ensures.back_len, c.split_at-2.ensures.front_len, c.split_at-2.ensures.back_len);
-      there = omega (arith, sizes_within rows i n, before, own, c.args.self.now.filled);
+      few = omega (arith, c.args.self.now.image.contents.few, c.split_at.ensures.front_len, c.split_at.ensures.back_len, c.split_at-2.ensures.front_len, c.split_at-2.ensures.back_len);
+      there = omega (arith, sizes_within rows i n, before, own, c.args.self.now.image.filled);
     }
 
 pub returns-clause-steps : goal.returns-clause-steps
 returns-clause-steps c =
-    let rows = c.args.self.now.entries.now in
-    let ts = c.args.self.now.texts.now in
+    let rows = c.args.self.now.image.contents.entries.now in
+    let ts = c.args.self.now.image.contents.texts.now in
     let i = c.args.self.now.start in
     let first = c.in_ok-first.first.now in
     let rest = c.in_ok-first.rest.now in
