@@ -31,9 +31,9 @@ whole e = eqb (length e.program_field) 20
 length_entry_bytes : (e : Entry) → length e.program_field ≡ 20 → length (entry_bytes e) ≡ 25
 length_entry_bytes e h = ap suc (length-append e.program_field (two_bytes e.name_length ++ two_bytes e.body_length) ∙ ap (λ (k : ℕ). k + 4) h)
 
-entry_same : (p : ℕ) (f f' : List ℕ) (n n' b b' : ℕ) → f ≡ f' → n ≡ n' → b ≡ b' →
-    ◌≡◌ {A = Entry} (record { program_length = p; program_field = f; name_length = n; body_length = b }) (record { program_length = p; program_field = f'; name_length = n'; body_length = b' })
-entry_same p f f' n n' b b' x y z = cc
+entry_same : (p p' : ℕ) (f f' : List ℕ) (n n' b b' : ℕ) → p ≡ p' → f ≡ f' → n ≡ n' → b ≡ b' →
+    ◌≡◌ {A = Entry} (record { program_length = p; program_field = f; name_length = n; body_length = b }) (record { program_length = p'; program_field = f'; name_length = n'; body_length = b' })
+entry_same p p' f f' n n' b b' w x y z = cc
 
 first_of_bytes : (e : Entry) (rest : List ℕ) → length e.program_field ≡ 20 → first_entry (entry_bytes e ++ rest) ≡ e
 first_of_bytes e rest h =
@@ -41,7 +41,7 @@ first_of_bytes e rest h =
     let four = two_bytes e.name_length ++ two_bytes e.body_length in
     let w = four ++ rest in
     ap (λ (ys : List ℕ). first_entry (e.program_length ∷ ys)) (append_assoc f four rest)
-    ∙ entry_same e.program_length _ f _ e.name_length _ e.body_length
+    ∙ entry_same _ e.program_length _ f _ e.name_length _ e.body_length refl
     (take_at f w 20 h)
     (two e.name_length _ _ (get_or-append_right f w 20 20 0 h (omega arith)) (get_or-append_right f w 20 21 0 h (omega arith)))
     (two e.body_length _ _ (get_or-append_right f w 20 22 0 h (omega arith)) (get_or-append_right f w 20 23 0 h (omega arith)))
@@ -118,7 +118,7 @@ length_entries zero bs = refl
 length_entries (suc n) bs = ap suc (length_entries n (drop 25 bs))
 
 -- 3. Lines from their entries and texts.
-pub line_same : (p p' n n' b b' : List ℕ) → p ≡ p' → n ≡ n' → b ≡ b' →
+line_same : (p p' n n' b b' : List ℕ) → p ≡ p' → n ≡ n' → b ≡ b' →
     ◌≡◌ {A = Line} (line p (record { name = n; body = b })) (line p' (record { name = n'; body = b' }))
 line_same p p' n n' b b' x y z = cc
 
@@ -175,16 +175,12 @@ filled_with_zeros n f h l z =
     ∙ ap (λ (xs : List ℕ). take n f ++ xs) (sym (zeros_only (drop n f) z))
     ∙ take-append-drop n f
 
-pub entry_same_all : (p p' : ℕ) (f f' : List ℕ) (n n' b b' : ℕ) → p ≡ p' → f ≡ f' → n ≡ n' → b ≡ b' →
-    ◌≡◌ {A = Entry} (record { program_length = p; program_field = f; name_length = n; body_length = b }) (record { program_length = p'; program_field = f'; name_length = n'; body_length = b' })
-entry_same_all p p' f f' n n' b b' w x y z = cc
-
 entry_of_line : (e : Entry) (ts : List ℕ) → whole e ≡ true → well_named e ≡ true → text_size e ≤ length ts → entry_for (line_at e ts) ≡ e
 entry_of_line e ts w t h =
     let l = whole_length e w in
     let b = name_bounds e t in
     let z = (and_parts (within 1 20 e.program_length) (list_all (λ b. eqb b 0) (drop e.program_length e.program_field)) t).1 in
-    entry_same_all _ e.program_length _ e.program_field _ e.name_length _ e.body_length
+    entry_same _ e.program_length _ e.program_field _ e.name_length _ e.body_length
     (length-take-le e.program_length e.program_field (omega (arith, l, b.1)))
     (filled_with_zeros e.program_length e.program_field b.1 l z)
     (length-take-le e.name_length ts (omega arith))
@@ -222,7 +218,7 @@ names_fit (e ∷ es) w t =
 -- an entry is read from its own 25 bytes
 first_of_row : (bs : List ℕ) → first_entry (take 25 bs) ≡ first_entry bs
 first_of_row bs =
-    entry_same_all _ _ _ _ _ _ _ _
+    entry_same _ _ _ _ _ _ _ _
     (get_or-take 25 bs 0 0 (omega arith))
     (ap (take 20) (drop-take 1 24 bs) ∙ take-take 20 24 (drop 1 bs) (omega arith))
     (ap (λ (k : ℕ). k * 256 + get_or (take 25 bs) 22 0) (get_or-take 25 bs 21 0 (omega arith)) ∙ ap (λ (k : ℕ). get_or bs 21 0 * 256 + k) (get_or-take 25 bs 22 0 (omega arith)))
