@@ -1,11 +1,12 @@
 -- Lines and the programs that they make: each gives the other back, and their names are the same.
 use Rattle.std.proofs.Common.{◌≡◌, ℕ, zero, suc, Bool, true, false, not, ◌&&◌, ◌||◌, leb, List, [], ◌∷◌, ◌++◌, map, length, Some, sym, refl, ap, ◌∙◌, arith}
+use Rattle.std.specs.List.{list_all}
 use Rattle.std.specs.Str.{bytes_eq}
 use Rattle.std.proofs.lemmas.Slice.Eq.{bytes_eq-Decides}
 use Rattle.std.proofs.lemmas.Bool.{both_ways, and_parts, and_from, not-true, not_from_false, leb-true, le-leb, or_from, or_parts, cond-true, cond-false, or_left, or_right, cond_both}
 use Rattle.code.specs.Meaning.{within}
 use Rattle.library.specs.Meaning.{NamedString, Program, Lawful, name_at}
-use Rattle.image.specs.Tests.{every, not_empty, first_is, among}
+use Rattle.image.specs.Tests.{not_empty, first_is, among}
 use Rattle.image.specs.Lines.{Line, line, listed, joined_by, gathered}
 use Rattle.image.specs.Layout.{has_strings}
 use Rattle.image.specs.Questions.{adjacent}
@@ -46,16 +47,16 @@ idempotent : (a b : Bool) → (a && (a && b)) ≡ (a && b)
 idempotent true b = refl
 idempotent false b = refl
 
-every_joined_by : (f : List ℕ → Bool) (l : Line) (ps : List Program) → every f (map name_of (joined_by l ps)) ≡ (f l.program && every f (map name_of ps))
-every_joined_by f l [] = refl
-every_joined_by f l (p ∷ ps) =
-    by_joining l p ps (λ qs. every f (map name_of qs) ≡ (f l.program && every f (map name_of (p ∷ ps))))
-    (λ _ e. sym (idempotent (f p.name) (every f (map name_of ps))) ∙ ap (λ (n : List ℕ). f n && (f p.name && every f (map name_of ps))) e)
+list_all-joined_by : (f : List ℕ → Bool) (l : Line) (ps : List Program) → list_all f (map name_of (joined_by l ps)) ≡ (f l.program && list_all f (map name_of ps))
+list_all-joined_by f l [] = refl
+list_all-joined_by f l (p ∷ ps) =
+    by_joining l p ps (λ qs. list_all f (map name_of qs) ≡ (f l.program && list_all f (map name_of (p ∷ ps))))
+    (λ _ e. sym (idempotent (f p.name) (list_all f (map name_of ps))) ∙ ap (λ (n : List ℕ). f n && (f p.name && list_all f (map name_of ps))) e)
     (λ _. refl)
 
-pub every_gathered : (f : List ℕ → Bool) (ls : List Line) → every f (map name_of (gathered ls)) ≡ every f (map program_of_line ls)
-every_gathered f [] = refl
-every_gathered f (l ∷ ls) = every_joined_by f l (gathered ls) ∙ ap (λ (b : Bool). f l.program && b) (every_gathered f ls)
+pub list_all-gathered : (f : List ℕ → Bool) (ls : List Line) → list_all f (map name_of (gathered ls)) ≡ list_all f (map program_of_line ls)
+list_all-gathered f [] = refl
+list_all-gathered f (l ∷ ls) = list_all-joined_by f l (gathered ls) ∙ ap (λ (b : Bool). f l.program && b) (list_all-gathered f ls)
 
 -- 3. Names of programs are apart exactly where those of the lines are adjacent.
 abbrev pub all_apart : List (List ℕ) → Bool
@@ -110,11 +111,11 @@ apart_gathered (l ∷ ls) =
 abbrev pub name_fits : List ℕ → Bool
 name_fits n = within 1 20 (length n)
 
-every_name : (f : List ℕ → Bool) (ps : List Program) (k : ℕ) (n : List ℕ) → every f (map name_of ps) ≡ true → name_at ps k ≡ Some n → f n ≡ true
-every_name f [] k n t e = let z : ◌≡◌ {A = ℕ} 0 1 = cc in absurd (omega arith)
-every_name f (q ∷ ps) zero n t e =
-    let s : q.name ≡ n = cc in ap f (sym s) ∙ (and_parts (f q.name) (every f (map name_of ps)) t).0
-every_name f (q ∷ ps) (suc k) n t e = every_name f ps k n (and_parts (f q.name) (every f (map name_of ps)) t).1 e
+name_passes : (f : List ℕ → Bool) (ps : List Program) (k : ℕ) (n : List ℕ) → list_all f (map name_of ps) ≡ true → name_at ps k ≡ Some n → f n ≡ true
+name_passes f [] k n t e = let z : ◌≡◌ {A = ℕ} 0 1 = cc in absurd (omega arith)
+name_passes f (q ∷ ps) zero n t e =
+    let s : q.name ≡ n = cc in ap f (sym s) ∙ (and_parts (f q.name) (list_all f (map name_of ps)) t).0
+name_passes f (q ∷ ps) (suc k) n t e = name_passes f ps k n (and_parts (f q.name) (list_all f (map name_of ps)) t).1 e
 
 among_name : (ps : List Program) (k : ℕ) (n : List ℕ) → name_at ps k ≡ Some n → among n (map name_of ps) ≡ true
 among_name [] k n e = let z : ◌≡◌ {A = ℕ} 0 1 = cc in absurd (omega arith)
@@ -136,10 +137,10 @@ apart_names (q ∷ ps) t (suc j) zero n d e = let s : q.name ≡ n = cc in absur
 apart_names (q ∷ ps) t (suc j) (suc k) n d e =
     ap suc (apart_names ps (and_parts (not (among q.name (map name_of ps))) (all_apart (map name_of ps)) t).1 j k n d e)
 
-pub lawful_from_tests : (ps : List Program) → every name_fits (map name_of ps) ≡ true → all_apart (map name_of ps) ≡ true → Lawful ps
+pub lawful_from_tests : (ps : List Program) → list_all name_fits (map name_of ps) ≡ true → all_apart (map name_of ps) ≡ true → Lawful ps
 lawful_from_tests ps t a = record {
   fit = λ k n e.
-      let w : name_fits n ≡ true = every_name name_fits ps k n t e in
+      let w : name_fits n ≡ true = name_passes name_fits ps k n t e in
       let b : (leb 1 (length n) ≡ true) × (leb (length n) 20 ≡ true) = and_parts _ _ w in
       (leb-true _ _ b.0, leb-true _ _ b.1);
   distinct = λ j k same. apart_names ps a j k same.name same.at_j same.at_k;
@@ -151,11 +152,11 @@ lawful_rest p ps h = record {
   distinct = λ j k same. let x : suc j ≡ suc k = h.distinct (suc j) (suc k) (record { name = same.name; at_j = same.at_j; at_k = same.at_k }) in omega arith;
 }
 
-pub fits_from_named : (ps : List Program) → Lawful ps → every name_fits (map name_of ps) ≡ true
+pub fits_from_named : (ps : List Program) → Lawful ps → list_all name_fits (map name_of ps) ≡ true
 fits_from_named [] h = refl
 fits_from_named (p ∷ ps) h =
     let w = h.fit 0 p.name refl in
-    and_from (name_fits p.name) (every name_fits (map name_of ps)) (and_from _ _ (le-leb _ _ w.0) (le-leb _ _ w.1)) (fits_from_named ps (lawful_rest p ps h))
+    and_from (name_fits p.name) (list_all name_fits (map name_of ps)) (and_from _ _ (le-leb _ _ w.0) (le-leb _ _ w.1)) (fits_from_named ps (lawful_rest p ps h))
 
 not_among : (n : List ℕ) (ps : List Program) → ((k : ℕ) → name_at ps k ≡ Some n → ⊥) → among n (map name_of ps) ≡ false
 not_among n [] h = refl
@@ -194,19 +195,19 @@ gathered_first n (s ∷ ss) ps t h e =
     gathered_program n s ss (listed ps) (ap (λ (qs : List Program). among n (map name_of qs)) e ∙ not-true _ h)
     ∙ ap (λ (qs : List Program). record { name = n; strings = s ∷ ss } ∷ qs) e
 
-pub gathered_listed : (ps : List Program) → every has_strings ps ≡ true → all_apart (map name_of ps) ≡ true → gathered (listed ps) ≡ ps
+pub gathered_listed : (ps : List Program) → list_all has_strings ps ≡ true → all_apart (map name_of ps) ≡ true → gathered (listed ps) ≡ ps
 gathered_listed [] t a = refl
 gathered_listed (p ∷ ps) t a =
-    let tests = and_parts (has_strings p) (every has_strings ps) t in
+    let tests = and_parts (has_strings p) (list_all has_strings ps) t in
     let apart = and_parts (not (among p.name (map name_of ps))) (all_apart (map name_of ps)) a in
     gathered_first p.name p.strings ps tests.0 apart.0 (gathered_listed ps tests.1 apart.1)
 
 -- each gathered program has a string
-filled_joined_by : (l : Line) (ps : List Program) → every has_strings ps ≡ true → every has_strings (joined_by l ps) ≡ true
+filled_joined_by : (l : Line) (ps : List Program) → list_all has_strings ps ≡ true → list_all has_strings (joined_by l ps) ≡ true
 filled_joined_by l [] h = refl
 filled_joined_by l (p ∷ ps) h =
-    by_joining l p ps (λ qs. every has_strings qs ≡ true) (λ _ _. (and_parts (has_strings p) (every has_strings ps) h).1) (λ _. h)
+    by_joining l p ps (λ qs. list_all has_strings qs ≡ true) (λ _ _. (and_parts (has_strings p) (list_all has_strings ps) h).1) (λ _. h)
 
-pub filled_gathered : (ls : List Line) → every has_strings (gathered ls) ≡ true
+pub filled_gathered : (ls : List Line) → list_all has_strings (gathered ls) ≡ true
 filled_gathered [] = refl
 filled_gathered (l ∷ ls) = filled_joined_by l (gathered ls) (filled_gathered ls)

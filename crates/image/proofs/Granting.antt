@@ -1,20 +1,21 @@
 -- The definition by questions and the one by layout say the same.
-use Rattle.std.proofs.Common.{◌≡◌, ℕ, zero, suc, ◌+◌, ◌-◌, ◌*◌, ◌<◌, ◌≤◌, Bool, true, false, eqb, leb, List, [], ◌∷◌, ◌++◌, map, length, get_or, take, drop, replicate, None, Option, sym, refl, ap, ◌∙◌, subst, arith}
-use Rattle.std.specs.List.{flat_map}
+use Rattle.std.proofs.Common.{◌≡◌, ℕ, zero, suc, ◌+◌, ◌-◌, ◌*◌, ◌/◌, ◌<◌, ◌≤◌, Bool, true, false, eqb, leb, List, [], ◌∷◌, ◌++◌, map, length, get_or, take, drop, replicate, None, Option, sym, refl, ap, ◌∙◌, subst, arith}
+use Rattle.std.specs.List.{flat_map, list_all}
+use Rattle.std.specs.Simd.{first_chunks}
 use Rattle.std.proofs.lemmas.List.{append-nil, length-append, length-map, take_all, take_at, drop_at, get_or-drop, get_or-take, length-replicate, take-append-drop, length-take-le, length-drop}
 use Rattle.std.proofs.lemmas.Bool.{and_parts, and_from, eqb-true, eq-eqb, leb-true, le-leb, both_ways, lt-ltb, cond-true}
 use Rattle.code.specs.Meaning.{CodeMeaning, within}
 use Rattle.library.specs.Meaning.{Program, Lawful}
 use Rattle.refusal.specs.declared.Refusal.{Refusal}
 use Rattle.refusal.specs.Outcome.{kept_or}
-use Rattle.image.specs.Tests.{every}
 use Rattle.image.specs.Lines.{Line, listed, gathered}
 use Rattle.image.specs.Layout.{Entry, entry_for, entry_bytes, text_bytes, laid_out, laid_out_lines, KeepsRules, proper_bytes, short_texts}
-use Rattle.image.specs.Contents.{entries, first_entry, from_entry, Small, program_of, text_sizes, text_size, lines, line_at, programs_in}
+use Rattle.image.specs.Contents.{entries, entries_of_rows, programs_of_rows, first_entry, program_of, text_sizes, text_size, lines, line_at, programs_in}
 use Rattle.image.specs.Questions.{ask, well_named, adjacent, contents_refusal, complete, image_refusal}
+use Rattle.image.specs.Cutting.{IsCut}
 use Rattle.image.specs.Opening.{programs_of, image_library, Opened, LayoutIsUnique}
-use Rattle.image.proofs.Gather.{name_of, program_of_line, name_fits, all_apart, listed_gathered, every_gathered, apart_gathered, lawful_from_tests, fits_from_named, apart_from_distinct, gathered_listed, filled_gathered}
-use Rattle.image.proofs.Entries.{whole, small_rest, entries_of_bytes, length_entries_bytes, bytes_of_entries, whole_entries, length_entries, lines_of_texts, texts_size, texts_of_lines, entries_of_lines, programs_of_lines, length_lines, names_fit}
+use Rattle.image.proofs.Gather.{name_of, program_of_line, name_fits, all_apart, listed_gathered, list_all-gathered, apart_gathered, lawful_from_tests, fits_from_named, apart_from_distinct, gathered_listed, filled_gathered}
+use Rattle.image.proofs.Entries.{entries-chunks, from_entry, Small, whole, small_rest, entries_of_bytes, length_entries_bytes, bytes_of_entries, whole_entries, length_entries, lines_of_texts, texts_size, texts_of_lines, entries_of_lines, programs_of_lines, length_lines, names_fit}
 
 -- a question that let pass, and what came after it
 pub asked : (q : Bool) (r : Refusal) (next : Option Refusal) → ask q r next ≡ None → (q ≡ true) × (next ≡ None)
@@ -27,37 +28,37 @@ passed false r next t e = absurd (both_ways false refl t)
 
 -- what the questions to the contents have shown
 pub record Sound (code : CodeMeaning) (es : List Entry) (texts : List ℕ) : Type 0 where
-  pub named : every well_named es ≡ true
+  pub named : list_all well_named es ≡ true
   pub grouped : adjacent (map program_of es) ≡ true
   pub filled : text_sizes es ≡ length texts
-  pub proper : every (proper_bytes code) (lines es texts) ≡ true
+  pub proper : list_all (proper_bytes code) (lines es texts) ≡ true
 
 pub sound_contents : (code : CodeMeaning) (es : List Entry) (texts : List ℕ) → contents_refusal code es texts ≡ None → Sound code es texts
 sound_contents code es texts e =
-    let four = asked (every well_named es) _ _ e in
+    let four = asked (list_all well_named es) _ _ e in
     let five = asked (adjacent (map program_of es)) _ _ four.1 in
     let six = asked (eqb (text_sizes es) (length texts)) _ _ five.1 in
-    let seven = asked (every (proper_bytes code) (lines es texts)) _ _ six.1 in
+    let seven = asked (list_all (proper_bytes code) (lines es texts)) _ _ six.1 in
     record { named = four.0; grouped = five.0; filled = eqb-true _ _ six.0; proper = seven.0 }
 
 -- the laws of a library, from two of the questions
-pub lawful_contents : (es : List Entry) (texts : List ℕ) → every whole es ≡ true → every well_named es ≡ true → adjacent (map program_of es) ≡ true → Lawful (gathered (lines es texts))
+pub lawful_contents : (es : List Entry) (texts : List ℕ) → list_all whole es ≡ true → list_all well_named es ≡ true → adjacent (map program_of es) ≡ true → Lawful (gathered (lines es texts))
 lawful_contents es texts w t a =
     let ls = lines es texts in
     let n = programs_of_lines es texts in
     lawful_from_tests (gathered ls)
-    (every_gathered name_fits ls ∙ ap (every name_fits) n ∙ names_fit es w t)
+    (list_all-gathered name_fits ls ∙ ap (list_all name_fits) n ∙ names_fit es w t)
     (sym (apart_gathered ls) ∙ ap adjacent n ∙ a)
 
 -- texts are short, since two bytes hold their lengths
-pub short_lines : (n : ℕ) (bs ts : List ℕ) → ((i : ℕ) → i < n → Small (from_entry i bs)) → text_sizes (entries n bs) ≤ length ts → every short_texts (lines (entries n bs) ts) ≡ true
+pub short_lines : (n : ℕ) (bs ts : List ℕ) → ((i : ℕ) → i < n → Small (from_entry i bs)) → text_sizes (entries n bs) ≤ length ts → list_all short_texts (lines (entries n bs) ts) ≡ true
 short_lines zero bs ts s h = refl
 short_lines (suc n) bs ts s h =
     let e = first_entry bs in
     let f = s 0 (omega arith) in
     let a : length (take e.name_length ts) ≡ e.name_length = length-take-le e.name_length ts (omega arith) in
     let b : length (take e.body_length (drop e.name_length ts)) ≡ e.body_length = length-take-le e.body_length (drop e.name_length ts) (simp length-drop (omega arith)) in
-    and_from (short_texts (line_at e ts)) (every short_texts (lines (entries n (drop 25 bs)) (drop (text_size e) ts)))
+    and_from (short_texts (line_at e ts)) (list_all short_texts (lines (entries n (drop 25 bs)) (drop (text_size e) ts)))
     (and_from _ _ (lt-ltb (length (take e.name_length ts)) 65536 (omega (arith, a, f.name_high, f.name_low)))
     (lt-ltb (length (take e.body_length (drop e.name_length ts))) 65536 (omega (arith, b, f.body_high, f.body_low))))
     (short_lines n (drop 25 bs) (drop (text_size e) ts) (small_rest n bs s) (simp length-drop (omega arith)))
@@ -79,8 +80,8 @@ contents_laid_out code n bs ts few long small sound =
         few = subst (λ (xs : List Line). length xs ≤ 128) (sym back) (omega (arith, count));
         filled = filled_gathered ls;
         lawful = lawful_contents es ts w sound.named sound.grouped;
-        short = ap (every short_texts) back ∙ short_lines n bs ts small (omega (arith, sound.filled));
-        proper = ap (every (proper_bytes code)) back ∙ sound.proper;
+        short = ap (list_all short_texts) back ∙ short_lines n bs ts small (omega (arith, sound.filled));
+        proper = ap (list_all (proper_bytes code)) back ∙ sound.proper;
       },
       ap (laid_out_lines code.number) back ∙ same_image code.number _ n _ bs _ ts count contents texts,
     )
@@ -126,28 +127,28 @@ granted_is_laid_out code (number ∷ n ∷ rest) h e =
     )
 
 -- 2. What is laid out is granted.
-every_named_line : (ls : List Line) → every name_fits (map program_of_line ls) ≡ true → every well_named (map entry_for ls) ≡ true
-every_named_line [] t = refl
-every_named_line (l ∷ ls) t =
-    let p = and_parts (name_fits l.program) (every name_fits (map program_of_line ls)) t in
+lines_well_named : (ls : List Line) → list_all name_fits (map program_of_line ls) ≡ true → list_all well_named (map entry_for ls) ≡ true
+lines_well_named [] t = refl
+lines_well_named (l ∷ ls) t =
+    let p = and_parts (name_fits l.program) (list_all name_fits (map program_of_line ls)) t in
     let n = length l.program in
-    and_from (well_named (entry_for l)) (every well_named (map entry_for ls))
-    (and_from (within 1 20 n) (every (eqb 0) (drop n (l.program ++ replicate (20 - n) 0))) p.0
-    (ap (every (eqb 0)) (drop_at l.program (replicate (20 - n) 0) n refl) ∙ zeros (20 - n)))
-    (every_named_line ls p.1)
+    and_from (well_named (entry_for l)) (list_all well_named (map entry_for ls))
+    (and_from (within 1 20 n) (list_all (λ b. eqb b 0) (drop n (l.program ++ replicate (20 - n) 0))) p.0
+    (ap (list_all (λ b. eqb b 0)) (drop_at l.program (replicate (20 - n) 0) n refl) ∙ zeros (20 - n)))
+    (lines_well_named ls p.1)
   where
-    zeros : (k : ℕ) → every (eqb 0) (replicate k 0) ≡ true
+    zeros : (k : ℕ) → list_all (λ b. eqb b 0) (replicate k 0) ≡ true
     zeros zero = refl
     zeros (suc k) = zeros k
 
-whole_for : (ls : List Line) → every name_fits (map program_of_line ls) ≡ true → every whole (map entry_for ls) ≡ true
+whole_for : (ls : List Line) → list_all name_fits (map program_of_line ls) ≡ true → list_all whole (map entry_for ls) ≡ true
 whole_for [] t = refl
 whole_for (l ∷ ls) t =
-    let p = and_parts (name_fits l.program) (every name_fits (map program_of_line ls)) t in
+    let p = and_parts (name_fits l.program) (list_all name_fits (map program_of_line ls)) t in
     let n = length l.program in
     let h : n ≤ 20 = leb-true n 20 (and_parts (leb 1 n) (leb n 20) p.0).1 in
     let e : length (l.program ++ replicate (20 - n) 0) ≡ 20 = length-append l.program (replicate (20 - n) 0) ∙ ap (λ (k : ℕ). n + k) (length-replicate (20 - n) 0) ∙ omega arith in
-    and_from (whole (entry_for l)) (every whole (map entry_for ls)) (eq-eqb _ 20 e) (whole_for ls p.1)
+    and_from (whole (entry_for l)) (list_all whole (map entry_for ls)) (eq-eqb _ 20 e) (whole_for ls p.1)
 
 programs_for : (ls : List Line) → map program_of (map entry_for ls) ≡ map program_of_line ls
 programs_for [] = refl
@@ -157,21 +158,21 @@ programs_for (l ∷ ls) =
 
 -- the entries and the texts of programs that keep the rules pass the questions
 lines_granted : (code : CodeMeaning) (ps : List Program) → KeepsRules code ps →
-    (contents_refusal code (map entry_for (listed ps)) (flat_map text_bytes (listed ps)) ≡ None) × (every whole (map entry_for (listed ps)) ≡ true)
+    (contents_refusal code (map entry_for (listed ps)) (flat_map text_bytes (listed ps)) ≡ None) × (list_all whole (map entry_for (listed ps)) ≡ true)
 lines_granted code ps rules =
     let ls = listed ps in
     let es = map entry_for ls in
     let ts = flat_map text_bytes ls in
     let apart = apart_from_distinct ps rules.lawful in
     let back : gathered ls ≡ ps = gathered_listed ps rules.filled apart in
-    let fit : every name_fits (map program_of_line ls) ≡ true =
-    sym (every_gathered name_fits ls) ∙ ap (λ (qs : List Program). every name_fits (map name_of qs)) back ∙ fits_from_named ps rules.lawful in
+    let fit : list_all name_fits (map program_of_line ls) ≡ true =
+    sym (list_all-gathered name_fits ls) ∙ ap (λ (qs : List Program). list_all name_fits (map name_of qs)) back ∙ fits_from_named ps rules.lawful in
     let grouped : adjacent (map program_of es) ≡ true =
     ap adjacent (programs_for ls) ∙ apart_gathered ls ∙ ap (λ (qs : List Program). all_apart (map name_of qs)) back ∙ apart in (
-      passed (every well_named es) _ _ (every_named_line ls fit)
+      passed (list_all well_named es) _ _ (lines_well_named ls fit)
           (passed (adjacent (map program_of es)) _ _ grouped
           (passed (eqb (text_sizes es) (length ts)) _ _ (eq-eqb _ _ (texts_size ls))
-          (passed (every (proper_bytes code) (lines es ts)) _ _ (ap (every (proper_bytes code)) (lines_of_texts ls) ∙ rules.proper) refl))),
+          (passed (list_all (proper_bytes code) (lines es ts)) _ _ (ap (list_all (proper_bytes code)) (lines_of_texts ls) ∙ rules.proper) refl))),
       whole_for ls fit,
     )
 
@@ -205,31 +206,34 @@ pub layout_is_unique : LayoutIsUnique
 layout_is_unique code ps qs p q e =
     sym (laid_out_is_granted code ps p).1 ∙ ap programs_of e ∙ (laid_out_is_granted code qs q).1
 
--- 4. An image that passes the first two questions is asked the others, and its programs are those of its contents and texts.
-pub record Apart (code : CodeMeaning) (bs : List ℕ) (n : ℕ) (contents texts : List ℕ) : Type 0 where
-  pub refusal : image_refusal code bs ≡ contents_refusal code (entries n contents) texts
-  pub programs : programs_of bs ≡ programs_in n contents texts
-
-taken_apart_rest : (code : CodeMeaning) (n : ℕ) (rest contents texts : List ℕ) → n ≤ 128 → 25 * n ≤ length rest → contents ≡ take (25 * n) rest → texts ≡ drop (25 * n) rest →
-    Apart code (code.number ∷ n ∷ rest) n contents texts
-taken_apart_rest code n rest contents texts few enough c t =
-    let k = entries n contents in
+-- 4. An image that passes the first two questions is cut.
+is_cut_rest : (code : CodeMeaning) (n : ℕ) (rest contents texts : List ℕ) (rows : List (List ℕ)) → n ≤ 128 → 25 * n ≤ length rest →
+    contents ≡ take (25 * n) rest → texts ≡ drop (25 * n) rest → rows ≡ first_chunks 25 (length contents / 25) contents → IsCut code (code.number ∷ n ∷ rest) rows texts
+is_cut_rest code n rest contents texts rows few enough c t r =
+    let es = entries n (take (25 * n) rest) in
+    let long : length (take (25 * n) rest) ≡ 25 * n = length-take-le (25 * n) rest enough in
+    let count : length (take (25 * n) rest) / 25 ≡ n = omega arith in
+    let same : es ≡ entries_of_rows rows =
+    sym
+    (ap entries_of_rows (r ∙ ap (λ (xs : List ℕ). first_chunks 25 (length xs / 25) xs) c ∙ ap (λ (k : ℕ). first_chunks 25 k (take (25 * n) rest)) count)
+    ∙ entries-chunks n (take (25 * n) rest)) in
     let two : eqb code.number code.number ≡ true = eq-eqb _ _ refl in
     let three : complete n rest ≡ true = and_from _ _ (le-leb n 128 few) (le-leb (25 * n) (length rest) enough) in
     record {
-      refusal =
+      asked =
           cond-true (eqb code.number code.number) _ _ two ∙ cond-true (complete n rest) _ _ three
-          ∙ ap (λ (xs : List ℕ). contents_refusal code (entries n xs) (drop (25 * n) rest)) (sym c) ∙ ap (contents_refusal code (entries n contents)) (sym t);
-      programs =
-          ap (λ (xs : List ℕ). programs_in n xs (drop (25 * n) rest)) (sym c) ∙ ap (programs_in n contents) (sym t);
+          ∙ ap (λ (xs : List Entry). contents_refusal code xs (drop (25 * n) rest)) same ∙ ap (contents_refusal code (entries_of_rows rows)) (sym t);
+      held = ap (λ (xs : List Entry). gathered (lines xs (drop (25 * n) rest))) same ∙ ap (programs_of_rows rows) (sym t);
+      fields = sym (ap (list_all whole) same) ∙ whole_entries n (take (25 * n) rest) (omega arith);
     }
 
-pub taken_apart : (code : CodeMeaning) (bs rest contents texts : List ℕ) (n : ℕ) → 2 ≤ length bs → get_or bs 0 0 ≡ code.number → get_or bs 1 0 ≡ n → rest ≡ drop 2 bs →
-    n ≤ 128 → 25 * n ≤ length rest → contents ≡ take (25 * n) rest → texts ≡ drop (25 * n) rest → Apart code bs n contents texts
-taken_apart code [] rest contents texts n h e f g few enough c t = absurd (omega arith)
-taken_apart code (x ∷ []) rest contents texts n h e f g few enough c t = absurd (omega arith)
-taken_apart code (x ∷ y ∷ bs) rest contents texts n h e f g few enough c t =
-    subst (λ (xs : List ℕ). Apart code xs n contents texts) (same code.number x n y rest bs (sym e) (sym f) g) (taken_apart_rest code n rest contents texts few enough c t)
+pub is_cut : (code : CodeMeaning) (bs rest contents texts : List ℕ) (rows : List (List ℕ)) (n : ℕ) → 2 ≤ length bs → get_or bs 0 0 ≡ code.number → get_or bs 1 0 ≡ n →
+    rest ≡ drop 2 bs → n ≤ 128 → 25 * n ≤ length rest → contents ≡ take (25 * n) rest → texts ≡ drop (25 * n) rest → rows ≡ first_chunks 25 (length contents / 25) contents →
+    IsCut code bs rows texts
+is_cut code [] rest contents texts rows n h e f g few enough c t r = absurd (omega arith)
+is_cut code (x ∷ []) rest contents texts rows n h e f g few enough c t r = absurd (omega arith)
+is_cut code (x ∷ y ∷ bs) rest contents texts rows n h e f g few enough c t r =
+    subst (λ (xs : List ℕ). IsCut code xs rows texts) (same code.number x n y rest bs (sym e) (sym f) g) (is_cut_rest code n rest contents texts rows few enough c t r)
   where
     same : (x x' y y' : ℕ) (xs xs' : List ℕ) → x ≡ x' → y ≡ y' → xs ≡ xs' → ◌≡◌ {A = List ℕ} (x ∷ y ∷ xs) (x' ∷ y' ∷ xs')
     same x x' y y' xs xs' p q r = cc

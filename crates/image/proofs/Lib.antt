@@ -1,5 +1,5 @@
+pub mod Rows
+pub mod Programs
 pub mod Gather
 pub mod Entries
 pub mod Granting
-pub mod Steps
-pub mod Finding

@@ -1,6 +1,6 @@
 -- What the bytes after an image's first two say, read from the front. Defined for any bytes.
-use Rattle.std.specs.Prelude.{ℕ, zero, suc, ◌+◌, ◌*◌, ◌<◌, List, [], ◌∷◌, take, drop, slice_index, slice_index_or}
-use Rattle.library.specs.Meaning.{Program}
+use Rattle.std.specs.Prelude.{ℕ, zero, suc, ◌+◌, ◌*◌, List, [], ◌∷◌, map, take, drop, slice_index}
+use Rattle.library.specs.Meaning.{NamedString, Program}
 use Rattle.image.specs.Lines.{Line, line, gathered}
 use Rattle.image.specs.Layout.{Entry}
 
@@ -13,20 +13,13 @@ first_entry bs = record {
   body_length = slice_index bs 23 * 256 + slice_index bs 24;
 }
 
--- the bytes from entry i on
-abbrev pub from_entry : ℕ → List ℕ → List ℕ
-from_entry i bs = drop (25 * i) bs
-
--- the lengths at the front of bytes are written in bytes
-pub record Small (bs : List ℕ) : Type 0 where
-  pub name_high : slice_index_or bs 21 0 < 256
-  pub name_low : slice_index_or bs 22 0 < 256
-  pub body_high : slice_index_or bs 23 0 < 256
-  pub body_low : slice_index_or bs 24 0 < 256
-
 abbrev pub entries : ℕ → List ℕ → List Entry
 entries zero bs = []
 entries (suc n) bs = first_entry bs ∷ entries n (drop 25 bs)
+
+-- the entries of rows of bytes, one in each
+abbrev pub entries_of_rows : List (List ℕ) → List Entry
+entries_of_rows rows = map first_entry rows
 
 abbrev pub program_of : Entry → List ℕ
 program_of e = take e.program_length e.program_field
@@ -51,3 +44,10 @@ lines (e ∷ es) ts = line_at e ts ∷ lines es (drop (text_size e) ts)
 -- the programs of contents (so many entries) and of the texts after them
 abbrev pub programs_in : ℕ → List ℕ → List ℕ → List Program
 programs_in n contents texts = gathered (lines (entries n contents) texts)
+
+-- the same of rows of entries
+abbrev pub programs_of_rows : List (List ℕ) → List ℕ → List Program
+programs_of_rows rows texts = gathered (lines (entries_of_rows rows) texts)
+
+abbrev pub strings_of : List Line → List NamedString
+strings_of ls = map (λ (l : Line). l.string) ls

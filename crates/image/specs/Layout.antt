@@ -1,9 +1,9 @@
 -- The bytes of an image: its code's number, its count of strings, an entry of 25 bytes for each string, then each string's name and body.
-use Rattle.std.specs.Prelude.{◌≡◌, ℕ, ◌-◌, ◌/◌, ◌%◌, ◌≤◌, Bool, true, ◌&&◌, ◌||◌, List, [], ◌∷◌, ◌++◌, map, length, replicate, ◌==◌, nat_lt}
-use Rattle.std.specs.List.{flat_map}
-use Rattle.code.specs.Meaning.{CodeMeaning, marked}
+use Rattle.std.specs.Prelude.{◌≡◌, ℕ, ◌-◌, ◌/◌, ◌%◌, ◌≤◌, Bool, true, ◌&&◌, List, [], ◌∷◌, ◌++◌, map, length, replicate, nat_lt}
+use Rattle.std.specs.List.{flat_map, list_all}
+use Rattle.code.specs.Meaning.{CodeMeaning, body_byte}
 use Rattle.library.specs.Meaning.{Program, Lawful}
-use Rattle.image.specs.Tests.{every, not_empty}
+use Rattle.image.specs.Tests.{not_empty}
 use Rattle.image.specs.Lines.{Line, listed}
 
 -- an entry of the contents: what it says of one string
@@ -44,12 +44,9 @@ abbrev pub laid_out : CodeMeaning → List Program → List ℕ
 laid_out code ps = laid_out_lines code.number (listed ps)
 
 -- What an image may hold. Names are of characters; a body may have ends of lines and marks too.
-abbrev pub body_byte : CodeMeaning → ℕ → Bool
-body_byte code b = code.character b || b == code.end_of_line || marked code b
-
 abbrev pub proper_bytes : CodeMeaning → Line → Bool
 proper_bytes code l =
-    every code.character l.program && every code.character l.string.name && every (body_byte code) l.string.body
+    list_all code.character l.program && list_all code.character l.string.name && list_all (body_byte code) l.string.body
 
 -- names and bodies have lengths that two bytes hold
 abbrev pub short_texts : Line → Bool
@@ -61,8 +58,8 @@ has_strings p = not_empty p.strings
 pub record KeepsRules (code : CodeMeaning) (ps : List Program) : Type 0 where
   -- at most 128 strings, and one at least in each program
   pub few : length (listed ps) ≤ 128
-  pub filled : every has_strings ps ≡ true
+  pub filled : list_all has_strings ps ≡ true
   -- program names are 1 to 20 bytes long, and distinct
   pub lawful : Lawful ps
-  pub short : every short_texts (listed ps) ≡ true
-  pub proper : every (proper_bytes code) (listed ps) ≡ true
+  pub short : list_all short_texts (listed ps) ≡ true
+  pub proper : list_all (proper_bytes code) (listed ps) ≡ true

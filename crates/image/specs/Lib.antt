@@ -4,6 +4,7 @@ pub mod Layout
 pub mod Contents
 pub mod Questions
 pub mod Opening
+pub mod Cutting
 pub mod Reading
 pub mod Granting
-pub mod Finding
+pub mod Programs

@@ -1,25 +1,19 @@
 -- What the code's views of an image mean.
-use Rattle.std.specs.Prelude.{ℕ, Bool}
-use Rattle.code.specs.Meaning.{CodeMeaning}
+use Rattle.std.specs.Prelude.{List}
 use Rattle.image.specs.declared.entry.Entry.{Entry as EntryView}
 use Rattle.image.specs.declared.line.Line.{Line as LineView}
+use Rattle.image.specs.declared.line.Lines.{Lines as LinesIterator}
+use Rattle.library.specs.Views.{string_viewed}
 use Rattle.image.specs.Lines.{Line, line}
-use Rattle.image.specs.declared.bytes.Part.{Part}
-use Rattle.image.specs.declared.bytes.Part.TheVariants.{Name, Body}
-use Rattle.image.specs.Layout.{Entry, body_byte}
+use Rattle.image.specs.Layout.{Entry}
+use Rattle.image.specs.Contents.{first_entry, entries_of_rows, lines}
 
 abbrev pub entry_read : EntryView → Entry
-entry_read e = record {
-  program_length = e.program_length;
-  program_field = e.program_field.now;
-  name_length = e.name_length;
-  body_length = e.body_length;
-}
+entry_read e = first_entry e.bytes.now
 
 abbrev pub line_read : LineView → Line
-line_read l = line l.program.now (record { name = l.name.now; body = l.body.now })
+line_read l = line l.program.now (string_viewed l.string)
 
--- may a byte stand in that part of a string?
-abbrev pub allowed : CodeMeaning → Part → ℕ → Bool
-allowed code Name = code.character
-allowed code Body = body_byte code
+-- the lines that an iterator has left
+abbrev pub lines_left : LinesIterator → List Line
+lines_left l = lines (entries_of_rows l.entries.now) l.texts.now

@@ -1,11 +1,7 @@
 -- Tests over lists. Assumes nothing.
-use Rattle.std.specs.Prelude.{ℕ, Bool, true, false, ◌&&◌, ◌||◌, List, [], ◌∷◌}
+use Rattle.std.specs.Prelude.{ℕ, Bool, true, false, List, [], ◌∷◌}
+use Rattle.std.specs.List.{list_any}
 use Rattle.std.specs.Str.{bytes_eq}
-
--- the test passes at each element
-abbrev pub every : {X : Type 0} → (X → Bool) → List X → Bool
-every f [] = true
-every f (x ∷ xs) = f x && every f xs
 
 abbrev pub not_empty : {X : Type 0} → List X → Bool
 not_empty [] = false
@@ -17,5 +13,4 @@ first_is n [] = false
 first_is n (m ∷ ms) = bytes_eq m n
 
 abbrev pub among : List ℕ → List (List ℕ) → Bool
-among n [] = false
-among n (m ∷ ms) = bytes_eq m n || among n ms
+among n ms = list_any (λ m. bytes_eq m n) ms

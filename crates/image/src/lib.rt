@@ -2,13 +2,12 @@
 
 #![tactic(auto)]
 
-mod bytes;
+mod contents;
 mod entry;
 mod granted;
 mod line;
-mod lookup;
 mod open;
-mod questions;
+mod program;
 mod reading;
 
 pub use granted::Image;

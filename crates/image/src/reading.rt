@@ -2,7 +2,7 @@
 ghost use Rattle.image.specs.Granting.{meaning_of};
 
 use crate::granted::Image;
-use library::{Reader, Space};
+use library::{Reader, Space, StringView};
 
 impl<'a> Reader for Image<'a> {
     ghost meaning = { meaning_of };
@@ -10,34 +10,25 @@ impl<'a> Reader for Image<'a> {
     ghost lawful = { λ image. record { fit = image.fit; distinct = image.distinct } };
 
     fn programs(&self) -> usize {
-        self.count_programs()
+        self.iter().count()
     }
 
     fn name(&self, program: usize) -> Option<&[u8]> {
-        let line = self.line_of(program, 0)?;
-        Some(line.program)
+        let program = self.program(program)?;
+        Some(program.name)
     }
 
     fn strings(&self, program: usize) -> Option<usize> {
-        self.count_strings(program)
+        let program = self.program(program)?;
+        Some(program.entries.len())
     }
 
-    fn string_name(&self, program: usize, string: usize) -> Option<&[u8]> {
-        let line = self.line_of(program, string)?;
-        Some(line.name)
-    }
-
-    fn string_body(&self, program: usize, string: usize) -> Option<&[u8]> {
-        let line = self.line_of(program, string)?;
-        Some(line.body)
+    fn string(&self, program: usize, string: usize) -> Option<StringView<'_>> {
+        self.program(program)?.string(string)
     }
 
     fn space(&self) -> Space {
-        Space {
-            programs: 0,
-            strings: 0,
-            bytes: 0,
-        }
+        Space::NONE
     }
 
     fn is_locked(&self) -> bool {
