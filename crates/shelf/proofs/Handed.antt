@@ -1,24 +1,16 @@
 -- Strings that are handed over, one after another.
-use Rattle.std.proofs.Common.{◌≡◌, ℕ, zero, suc, ◌+◌, ◌≤◌, true, List, [], ◌∷◌, ◌++◌, map, length, take, drop, is_some, Some, None, Option, sym, refl, ap, ◌∙◌, append_assoc, add-one, arith}
+use Rattle.std.proofs.Common.{◌≡◌, ℕ, ◌+◌, ◌≤◌, true, List, [], ◌∷◌, ◌++◌, map, length, take, drop, is_some, Some, None, Option, sym, refl, ap, ◌∙◌, append_assoc, arith}
 use Rattle.std.specs.List.{flat_map, slice_get}
 use Rattle.std.specs.Option.{option_map}
 use Rattle.std.proofs.lemmas.List.{take-append-drop, map_push, flat_map_more}
 use Rattle.library.specs.Meaning.{NamedString}
 use Rattle.library.specs.Keeping.{strings_bytes}
 use Rattle.shelf.specs.Adding.{row_of, bytes_of}
+use Rattle.shelf.proofs.Totals.{take_nth}
 
 pub present : {X Y : Type 0} (o : Option X) (f : X → Y) (y : Y) → option_map f o ≡ Some y → is_some o ≡ true
 present None f y e = cc
 present (Some x) f y e = refl
-
--- one element more
-pub take_nth : {X : Type 0} (xs : List X) (i : ℕ) (x : X) → slice_get xs i ≡ Some x → take (i + 1) xs ≡ take i xs ++ x ∷ []
-take_nth {X = X} xs i x e = ap (λ (k : ℕ). take k xs) (add-one i) ∙ go xs i e
-  where
-    go : (ys : List X) (k : ℕ) → slice_get ys k ≡ Some x → take (suc k) ys ≡ take k ys ++ x ∷ []
-    go [] k e = cc
-    go (y ∷ ys) zero e = cc
-    go (y ∷ ys) (suc k) e = ap (λ (zs : List X). y ∷ zs) (go ys k e)
 
 strings_bytes_++ : (xs ys : List NamedString) → strings_bytes (xs ++ ys) ≡ strings_bytes xs + strings_bytes ys
 strings_bytes_++ [] ys = omega arith

@@ -42,11 +42,9 @@ fn append(bytes: &mut Vec<u8>, more: &[u8])
     requires { vec_len bytes.old + length more.now ≤ vec_capacity bytes.old }
     ensures items { bytes.new.items ≡ bytes.old.items ++ more.now }
     ensures len { vec_len bytes.new ≡ vec_len bytes.old + length more.now }
-    ensures capacity { vec_capacity bytes.new ≡ vec_capacity bytes.old }
+    ensures capacity { vec_capacity bytes.old ≤ vec_capacity bytes.new }
 {
-    for byte in more {
-        bytes.push_reserved(*byte);
-    }
+    bytes.extend_from_slice(more).unwrap();
 }
 
 // Adds the rows and the bytes of strings.
@@ -56,7 +54,7 @@ fn add_strings<S: Source>(strings: &S, rows: &mut Vec<StringRow>, bytes: &mut Ve
     ensures rows { rows.new.items ≡ rows.old.items ++ map row_of (S.Source.strings strings.now) }
     ensures bytes { bytes.new.items ≡ bytes.old.items ++ flat_map bytes_of (S.Source.strings strings.now) }
     ensures lens { (vec_len rows.new ≡ vec_len rows.old + length (S.Source.strings strings.now)) × (vec_len bytes.new ≡ vec_len bytes.old + strings_bytes (S.Source.strings strings.now)) }
-    ensures capacity { (vec_capacity rows.new ≡ vec_capacity rows.old) × (vec_capacity bytes.new ≡ vec_capacity bytes.old) }
+    ensures capacity { (vec_capacity rows.old ≤ vec_capacity rows.new) × (vec_capacity bytes.old ≤ vec_capacity bytes.new) }
 {
     for s in 0..strings.count() {
         let text = handed(strings, s);

@@ -1,4 +1,4 @@
-use Rattle.std.proofs.Common.{◌≡◌, ◌+◌, ◌++◌, map, take, vec_items, vec_len, vec_capacity}
+use Rattle.std.proofs.Common.{◌≡◌, ◌+◌, ◌≤◌, ◌++◌, map, take, vec_items, vec_len, vec_capacity}
 use Rattle.std.specs.List.{flat_map}
 use Rattle.library.specs.Keeping.{strings_bytes}
 use Rattle.shelf.specs.Adding.{row_of, bytes_of}
@@ -10,5 +10,5 @@ invariant-loop-s g l =
     × (vec_items l.bytes ≡ vec_items l.initial.bytes ++ flat_map bytes_of (take l.s (g.S.Source.strings l.strings)))
     × (vec_len l.rows ≡ vec_len l.initial.rows + l.s)
     × (vec_len l.bytes ≡ vec_len l.initial.bytes + strings_bytes (take l.s (g.S.Source.strings l.strings)))
-    × (vec_capacity l.rows ≡ vec_capacity l.initial.rows)
-    × (vec_capacity l.bytes ≡ vec_capacity l.initial.bytes)
+    × (vec_capacity l.initial.rows ≤ vec_capacity l.rows)
+    × (vec_capacity l.initial.bytes ≤ vec_capacity l.bytes)

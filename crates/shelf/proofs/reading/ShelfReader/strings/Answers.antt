@@ -13,4 +13,4 @@ rows_viewed v o e =
     ∙ ap (option_map (λ (p : Program). length p.strings)) e
 
 pub returns : goal.returns
-returns c = rows_viewed c.in_ok-view.view _ c.in_ok-view.ensures.value
+returns c = rows_viewed c.in_ok-view.view _ c.in_ok-view.ensures
