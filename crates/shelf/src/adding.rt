@@ -1,28 +1,15 @@
 // A program that is added at the end of a shelf.
-ghost use Rattle.std.specs.Prelude.{◌≡◌, ◌+◌, ◌<◌, ◌≤◌, true, false, ◌++◌, map, length, is_some, Some, vec_len, vec_capacity, MatchOption};
-ghost use Rattle.std.specs.List.{flat_map, slice_get};
+ghost use Rattle.std.specs.Prelude.{◌≡◌, ◌+◌, ◌<◌, ◌≤◌, true, false, ◌++◌, map, length, is_some, vec_len, vec_capacity, MatchOption};
+ghost use Rattle.std.specs.List.{flat_map};
 ghost use Rattle.library.specs.Meaning.{NameLength};
 ghost use Rattle.library.specs.Meaning.{place as place_in};
 ghost use Rattle.library.specs.Keeping.{strings_bytes, space_of, fits, with_program};
 ghost use Rattle.shelf.specs.Adding.{row_of, bytes_of};
-ghost use Rattle.shelf.specs.Places.{string_viewed};
 ghost use Rattle.shelf.specs.Shelved.{meaning_of, programs_of};
 
 use crate::rows::{ProgramRow, StringRow};
 use crate::shelf::Shelf;
-use crate::views::StringView;
 use library::{Reader, Source};
-
-// A string that is handed over.
-fn handed<S: Source>(strings: &S, string: usize) -> StringView<'_>
-    requires { string < length (S.Source.strings strings.now) }
-    ensures { slice_get (S.Source.strings strings.now) string ≡ Some (string_viewed result) }
-{
-    StringView {
-        name: strings.name(string).unwrap(),
-        body: strings.body(string).unwrap(),
-    }
-}
 
 // What strings leave of so many bytes; `None` if they do not fit.
 fn room_after<S: Source>(strings: &S, room: usize) -> Option<usize>
@@ -30,7 +17,7 @@ fn room_after<S: Source>(strings: &S, room: usize) -> Option<usize>
 {
     let mut left = room;
     for s in 0..strings.count() {
-        let text = handed(strings, s);
+        let text = strings.string(s).unwrap();
         left = left.checked_sub(text.name.len())?;
         left = left.checked_sub(text.body.len())?;
     }
@@ -57,7 +44,7 @@ fn add_strings<S: Source>(strings: &S, rows: &mut Vec<StringRow>, bytes: &mut Ve
     ensures capacity { (vec_capacity rows.old ≤ vec_capacity rows.new) × (vec_capacity bytes.old ≤ vec_capacity bytes.new) }
 {
     for s in 0..strings.count() {
-        let text = handed(strings, s);
+        let text = strings.string(s).unwrap();
         append(bytes, text.name);
         append(bytes, text.body);
         rows.push_reserved(StringRow {

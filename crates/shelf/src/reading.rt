@@ -3,13 +3,14 @@ ghost use Rattle.std.specs.Prelude.{◌≡◌};
 ghost use Rattle.std.specs.Option.{option_map};
 ghost use Rattle.std.specs.List.{slice_get};
 ghost use Rattle.shelf.specs.Decoding.{strings_in};
-ghost use Rattle.shelf.specs.Places.{program_viewed, string_viewed};
+ghost use Rattle.library.specs.Views.{string_viewed};
+ghost use Rattle.shelf.specs.Places.{program_viewed};
 ghost use Rattle.shelf.specs.Shelved.{meaning_of, programs_of};
 
 use crate::places::{Place, text_size};
 use crate::shelf::{BYTES, PROGRAMS, STRINGS, Shelf};
-use crate::views::{ProgramView, StringView};
-use library::{Reader, Space};
+use crate::views::ProgramView;
+use library::{Reader, Space, StringView};
 
 impl Shelf {
     // A program on the shelf.
@@ -52,25 +53,15 @@ impl Reader for Shelf {
     }
 
     fn name(&self, program: usize) -> Option<&[u8]> {
-        let view = self.view(program)?;
-        Some(view.name)
+        self.view(program).map(|view| view.name)
     }
 
     fn strings(&self, program: usize) -> Option<usize> {
-        let view = self.view(program)?;
-        Some(view.rows.len())
+        self.view(program).map(|view| view.rows.len())
     }
 
-    fn string_name(&self, program: usize, string: usize) -> Option<&[u8]> {
-        let view = self.view(program)?;
-        let text = view.string(string)?;
-        Some(text.name)
-    }
-
-    fn string_body(&self, program: usize, string: usize) -> Option<&[u8]> {
-        let view = self.view(program)?;
-        let text = view.string(string)?;
-        Some(text.body)
+    fn string(&self, program: usize, string: usize) -> Option<StringView<'_>> {
+        self.view(program)?.string(string)
     }
 
     fn space(&self) -> Space {

@@ -1,4 +1,4 @@
-// A program and a string as they lie on a shelf.
+// A program as it lies on a shelf.
 ghost use Rattle.std.specs.Prelude.{◌≤◌, length};
 ghost use Rattle.shelf.specs.Decoding.{text_sizes};
 
@@ -11,10 +11,4 @@ pub struct ProgramView<'a> {
     pub rows: &'a [StringRow],
     pub texts: &'a [u8],
     ghost within: { text_sizes rows.now ≤ length texts.now },
-}
-
-#[derive(Clone, Copy)]
-pub struct StringView<'a> {
-    pub name: &'a [u8],
-    pub body: &'a [u8],
 }

@@ -2,21 +2,26 @@ use Rattle.std.proofs.Common.{◌+◌, [], ◌∷◌, map, take, vec_items, ap, 
 use Rattle.std.proofs.lemmas.List.{append_assoc, take_all}
 use Rattle.library.specs.Keeping.{strings_bytes}
 use Rattle.shelf.specs.Adding.{row_of}
-use Rattle.shelf.specs.Places.{string_viewed}
-use Rattle.shelf.proofs.Handed.{bytes_next, bytes_front, rows_next, texts_next}
+use Rattle.library.specs.Views.{string_viewed}
+use Rattle.shelf.proofs.Handed.{handed, present, bytes_next, bytes_front, rows_next, texts_next}
 use Rattle.shelf.proofs.adding.add_strings.Goals as goal
+
+pub unwrap-text-requires : goal.unwrap-text-requires
+unwrap-text-requires g c = present string_viewed _ (g.S.Source.strings c.args.strings.now) c.loop-s.s (omega arith) c.string.ensures
 
 pub append-requires : goal.append-requires
 append-requires g c =
     let ss = g.S.Source.strings c.args.strings.now in
-    let next = bytes_next ss c.loop-s.s _ c.handed-text.ensures in
+    let here = handed string_viewed _ _ ss c.loop-s.s c.unwrap-text.ensures c.string.ensures in
+    let next = bytes_next ss c.loop-s.s _ here in
     let front = bytes_front (c.loop-s.s + 1) ss in
     omega arith
 
 pub append-requires-in-loop-s : goal.append-requires-in-loop-s
 append-requires-in-loop-s g c =
     let ss = g.S.Source.strings c.args.strings.now in
-    let next = bytes_next ss c.loop-s.s _ c.handed-text.ensures in
+    let here = handed string_viewed _ _ ss c.loop-s.s c.unwrap-text.ensures c.string.ensures in
+    let next = bytes_next ss c.loop-s.s _ here in
     let front = bytes_front (c.loop-s.s + 1) ss in
     omega arith
 
@@ -27,11 +32,11 @@ pub loop-s-preserved : goal.loop-s-preserved
 loop-s-preserved g c =
     let ss = g.S.Source.strings c.args.strings.now in
     let i = c.loop-s.s in
-    let here = c.handed-text.ensures in
+    let here = handed string_viewed _ _ ss i c.unwrap-text.ensures c.string.ensures in
     let next = bytes_next ss i _ here in
     let row = rows_next ss i _ here in
     let text = texts_next ss i _ (vec_items c.args.bytes.now) here in
-    let joined = append_assoc (vec_items c.args.rows.now) (map row_of (take i ss)) (row_of (string_viewed c.handed-text.result) ∷ []) in
+    let joined = append_assoc (vec_items c.args.rows.now) (map row_of (take i ss)) (row_of (string_viewed c.unwrap-text.result) ∷ []) in
     ((cc), (cc), omega arith, omega arith, omega arith, omega arith)
 
 pub returns : goal.returns

@@ -2,7 +2,7 @@ use Rattle.std.proofs.Common.{◌≡◌, ◌+◌, ◌-◌, length, take, drop, s
 use Rattle.std.specs.Option.{option_map}
 use Rattle.std.proofs.lemmas.List.{length-take-le, length-drop, take_rest}
 use Rattle.std.proofs.lemmas.List.Sums.{sum_by-take-le}
-use Rattle.shelf.specs.Places.{string_viewed}
+use Rattle.library.specs.Views.{string_viewed}
 use Rattle.shelf.proofs.Packed.{row_text, nth_strings, string_read}
 use Rattle.shelf.proofs.Totals.{read_there, read_past, sum_next}
 use Rattle.shelf.proofs.views.ProgramView.string.Goals as goal
