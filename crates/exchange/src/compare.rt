@@ -10,22 +10,13 @@ use library::{Reader, Source};
 fn same_string<S: Source, Q: Source>(one: &S, other: &Q, s: usize) -> bool
     ensures { Decides result (slice_get (S.Source.strings one.now) s ≡ slice_get (Q.Source.strings other.now) s) }
 {
-    one.name(s) == other.name(s) && one.body(s) == other.body(s)
+    one.string(s) == other.string(s)
 }
 
 fn same_strings<S: Source, Q: Source>(one: &S, other: &Q) -> bool
     ensures { Decides result (S.Source.strings one.now ≡ Q.Source.strings other.now) }
 {
-    let count = one.count();
-    if other.count() != count {
-        return false;
-    }
-    for s in 0..count {
-        if !same_string(one, other, s) {
-            return false;
-        }
-    }
-    true
+    one.count() == other.count() && (0..one.count()).all(|s| same_string(one, other, s))
 }
 
 // Is the program at that place the same in both, by its name and its strings?
@@ -47,14 +38,6 @@ fn same_program<R: Reader, Q: Reader>(one: &R, other: &Q, program: usize) -> boo
 pub fn same_programs<R: Reader, Q: Reader>(one: &R, other: &Q) -> bool
     ensures { Decides result ((R.Reader.meaning one.now).programs ≡ (Q.Reader.meaning other.now).programs) }
 {
-    let count = one.programs();
-    if other.programs() != count {
-        return false;
-    }
-    for p in 0..count {
-        if !same_program(one, other, p) {
-            return false;
-        }
-    }
-    true
+    one.programs() == other.programs()
+        && (0..one.programs()).all(|program| same_program(one, other, program))
 }
