@@ -16,7 +16,8 @@ fn same_string<S: Source, Q: Source>(one: &S, other: &Q, s: usize) -> bool
 fn same_strings<S: Source, Q: Source>(one: &S, other: &Q) -> bool
     ensures { Decides result (S.Source.strings one.now ≡ Q.Source.strings other.now) }
 {
-    one.count() == other.count() && (0..one.count()).all(|s| same_string(one, other, s))
+    let count = one.count();
+    other.count() == count && (0..count).all(|s| same_string(one, other, s))
 }
 
 // Is the program at that place the same in both, by its name and its strings?
@@ -38,6 +39,6 @@ fn same_program<R: Reader, Q: Reader>(one: &R, other: &Q, program: usize) -> boo
 pub fn same_programs<R: Reader, Q: Reader>(one: &R, other: &Q) -> bool
     ensures { Decides result ((R.Reader.meaning one.now).programs ≡ (Q.Reader.meaning other.now).programs) }
 {
-    one.programs() == other.programs()
-        && (0..one.programs()).all(|program| same_program(one, other, program))
+    let count = one.programs();
+    other.programs() == count && (0..count).all(|program| same_program(one, other, program))
 }

@@ -1,27 +1,16 @@
 -- Strings that are handed over, one after another.
-use Rattle.std.proofs.Common.{◌≡◌, ℕ, zero, suc, ◌+◌, ◌<◌, ◌≤◌, true, List, [], ◌∷◌, ◌++◌, map, length, take, drop, is_some, Some, None, Option, sym, refl, ap, ◌∙◌, append_assoc, arith}
+use Rattle.std.proofs.Common.{◌≡◌, ℕ, ◌+◌, ◌≤◌, List, [], ◌∷◌, ◌++◌, map, length, take, drop, Some, Option, sym, ap, ◌∙◌, append_assoc, arith}
 use Rattle.std.specs.List.{flat_map, slice_get}
 use Rattle.std.specs.Option.{option_map}
 use Rattle.std.proofs.lemmas.List.{take-append-drop, map_push, flat_map_more}
-use Rattle.std.proofs.lemmas.Option.{none-some}
 use Rattle.library.specs.Meaning.{NamedString}
 use Rattle.library.specs.Keeping.{strings_bytes}
 use Rattle.shelf.specs.Adding.{row_of, bytes_of}
 use Rattle.shelf.proofs.Totals.{take_nth}
 
--- a string that is handed over is that of its place ..
+-- a string that is handed over is that of its place
 pub handed : {X Y : Type 0} (f : X → Y) (o : Option X) (x : X) (ys : List Y) (i : ℕ) → o ≡ Some x → option_map f o ≡ slice_get ys i → slice_get ys i ≡ Some (f x)
 handed f o x ys i is e = sym e ∙ ap (option_map f) is
-
--- .. and there is one at each place
-pub present : {X Y : Type 0} (f : X → Y) (o : Option X) (ys : List Y) (i : ℕ) → i < length ys → option_map f o ≡ slice_get ys i → is_some o ≡ true
-present f (Some x) ys i h e = refl
-present f None ys i h e = absurd (go ys i h e)
-  where
-    go : {Y : Type 0} (ys : List Y) (i : ℕ) → i < length ys → None ≡ slice_get ys i → ⊥
-    go [] i h e = omega arith
-    go (y ∷ ys) zero h e = none-some y e
-    go (y ∷ ys) (suc i) h e = go ys i (omega arith) e
 
 strings_bytes_++ : (xs ys : List NamedString) → strings_bytes (xs ++ ys) ≡ strings_bytes xs + strings_bytes ys
 strings_bytes_++ [] ys = omega arith
@@ -34,8 +23,12 @@ bytes_next ss i s e =
     ap strings_bytes (take_nth ss i s e) ∙ strings_bytes_++ (take i ss) (s ∷ []) in
     omega (arith, more)
 
-pub bytes_front : (n : ℕ) (ss : List NamedString) → strings_bytes (take n ss) ≤ strings_bytes ss
-bytes_front n ss = omega (arith, ap strings_bytes (sym (take-append-drop n ss)) ∙ strings_bytes_++ (take n ss) (drop n ss))
+-- .. is within all of them
+pub bytes_within : (ss : List NamedString) (i : ℕ) (s : NamedString) → slice_get ss i ≡ Some s → strings_bytes (take i ss) + (length s.name + length s.body) ≤ strings_bytes ss
+bytes_within ss i s e =
+    let whole : strings_bytes ss ≡ strings_bytes (take (i + 1) ss) + strings_bytes (drop (i + 1) ss) =
+    ap strings_bytes (sym (take-append-drop (i + 1) ss)) ∙ strings_bytes_++ (take (i + 1) ss) (drop (i + 1) ss) in
+    omega (arith, whole, bytes_next ss i s e)
 
 -- its row behind the rows, and its bytes behind the bytes
 pub rows_next : (ss : List NamedString) (i : ℕ) (s : NamedString) → slice_get ss i ≡ Some s → map row_of (take (i + 1) ss) ≡ map row_of (take i ss) ++ row_of s ∷ []

@@ -9,5 +9,5 @@ pub returns-then-count : goal.returns-then-count
 returns-then-count g c =
     let xs = g.S.Source.strings c.args.one.now in
     let ys = g.Q.Source.strings c.args.other.now in
-    same_each xs ys c.count-then-count.result c.all.result c.count-then-count.ensures (omega arith)
-    (cases_from_all _ _ _ (λ (k : ℕ). slice_get xs k ≡ slice_get ys k) (λ (k : ℕ). slice_get xs k ≡ slice_get ys k → ⊥) c.all.ensures.ran (YieldsList-from_range 0 c.count-then-count.result c.count-then-count.result refl (omega arith)) (λ x q k. search (rules, tests)) (λ x q k. search (rules, tests)))
+    same_each xs ys c.count-count.result c.all.result c.count-count.ensures (omega arith)
+    (cases_from_all _ _ _ (λ (k : ℕ). slice_get xs k ≡ slice_get ys k) (λ (k : ℕ). slice_get xs k ≡ slice_get ys k → ⊥) c.all.ensures.ran (YieldsList-from_range 0 c.count-count.result c.count-count.result refl (omega arith)) (λ x q k. search (rules, tests)) (λ x q k. search (rules, tests)))

@@ -1,32 +1,25 @@
-use Rattle.std.proofs.Common.{◌+◌, [], ◌∷◌, map, take, vec_items, ap, arith}
-use Rattle.std.proofs.lemmas.List.{append_assoc, take_all}
-use Rattle.library.specs.Keeping.{strings_bytes}
-use Rattle.shelf.specs.Adding.{row_of}
+use Rattle.std.proofs.Common.{[], ◌∷◌, map, take, vec_items, arith}
+use Rattle.std.proofs.lemmas.List.{append_assoc}
+use Rattle.std.proofs.lemmas.Option.{gets}
 use Rattle.library.specs.Views.{string_viewed}
-use Rattle.shelf.proofs.Handed.{handed, present, bytes_next, bytes_front, rows_next, texts_next}
+use Rattle.shelf.specs.Adding.{row_of}
+use Rattle.shelf.proofs.Handed.{handed, bytes_next, bytes_within, rows_next, texts_next}
 use Rattle.shelf.proofs.adding.add_strings.Goals as goal
 
 pub unwrap-text-requires : goal.unwrap-text-requires
-unwrap-text-requires g c = present string_viewed _ (g.S.Source.strings c.args.strings.now) c.loop-s.s (omega arith) c.string.ensures
+unwrap-text-requires g c = grind (arith, gets, c.string.ensures)
 
 pub append-requires : goal.append-requires
 append-requires g c =
     let ss = g.S.Source.strings c.args.strings.now in
-    let here = handed string_viewed _ _ ss c.loop-s.s c.unwrap-text.ensures c.string.ensures in
-    let next = bytes_next ss c.loop-s.s _ here in
-    let front = bytes_front (c.loop-s.s + 1) ss in
+    let within = bytes_within ss c.loop-s.s _ (handed string_viewed _ _ ss c.loop-s.s c.unwrap-text.ensures c.string.ensures) in
     omega arith
 
 pub append-requires-in-loop-s : goal.append-requires-in-loop-s
 append-requires-in-loop-s g c =
     let ss = g.S.Source.strings c.args.strings.now in
-    let here = handed string_viewed _ _ ss c.loop-s.s c.unwrap-text.ensures c.string.ensures in
-    let next = bytes_next ss c.loop-s.s _ here in
-    let front = bytes_front (c.loop-s.s + 1) ss in
+    let within = bytes_within ss c.loop-s.s _ (handed string_viewed _ _ ss c.loop-s.s c.unwrap-text.ensures c.string.ensures) in
     omega arith
-
-pub push_reserved-requires : goal.push_reserved-requires
-push_reserved-requires g c = omega arith
 
 pub loop-s-preserved : goal.loop-s-preserved
 loop-s-preserved g c =
@@ -38,15 +31,3 @@ loop-s-preserved g c =
     let text = texts_next ss i _ (vec_items c.args.bytes.now) here in
     let joined = append_assoc (vec_items c.args.rows.now) (map row_of (take i ss)) (row_of (string_viewed c.unwrap-text.result) ∷ []) in
     ((cc), (cc), omega arith, omega arith, omega arith, omega arith)
-
-pub returns : goal.returns
-returns g c =
-    let ss = g.S.Source.strings c.args.strings.now in
-    let all = take_all c.loop-s.s ss (omega arith) in
-    let size = ap strings_bytes all in
-    record {
-      rows = (cc);
-      bytes = (cc);
-      lens = (omega arith, omega arith);
-      capacity = (c.loop-s.invariant.4, c.loop-s.invariant.5);
-    }
