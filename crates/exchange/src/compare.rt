@@ -6,18 +6,18 @@ ghost use Rattle.library.specs.Meaning.{program_at};
 use crate::program_strings::ProgramStrings;
 use library::{Reader, Source};
 
-// Is string `s` the same in both, by its name and its body?
-fn same_string<S: Source, Q: Source>(one: &S, other: &Q, s: usize) -> bool
-    ensures { Decides result (slice_get (S.Source.strings one.now) s ≡ slice_get (Q.Source.strings other.now) s) }
+// Is the string at that place the same in both, by its name and its body?
+fn same_string<S: Source, Q: Source>(one: &S, other: &Q, string: usize) -> bool
+    ensures { Decides result (slice_get (S.Source.strings one.now) string ≡ slice_get (Q.Source.strings other.now) string) }
 {
-    one.string(s) == other.string(s)
+    one.string(string) == other.string(string)
 }
 
 fn same_strings<S: Source, Q: Source>(one: &S, other: &Q) -> bool
     ensures { Decides result (S.Source.strings one.now ≡ Q.Source.strings other.now) }
 {
     let count = one.count();
-    other.count() == count && (0..count).all(|s| same_string(one, other, s))
+    other.count() == count && (0..count).all(|string| same_string(one, other, string))
 }
 
 // Is the program at that place the same in both, by its name and its strings?

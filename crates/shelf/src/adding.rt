@@ -1,8 +1,7 @@
 // A program that is added at the end of a shelf.
 ghost use Rattle.std.specs.Prelude.{◌≡◌, ◌+◌, ◌<◌, ◌≤◌, true, false, ◌++◌, map, length, is_some, vec_len, vec_capacity, MatchOption};
 ghost use Rattle.std.specs.List.{flat_map};
-ghost use Rattle.library.specs.Meaning.{NameLength};
-ghost use Rattle.library.specs.Meaning.{place as place_in};
+ghost use Rattle.library.specs.Meaning.{NameLength, place as place_in};
 ghost use Rattle.library.specs.Keeping.{strings_bytes, space_of, fits, with_program};
 ghost use Rattle.shelf.specs.Adding.{row_of, bytes_of};
 ghost use Rattle.shelf.specs.Shelved.{meaning_of, programs_of};
@@ -16,8 +15,8 @@ fn room_after<S: Source>(strings: &S, room: usize) -> Option<usize>
     ensures { MatchOption result (room < strings_bytes (S.Source.strings strings.now)) (λ left. left + strings_bytes (S.Source.strings strings.now) ≡ room) }
 {
     let mut left = room;
-    for s in 0..strings.count() {
-        let text = strings.string(s).unwrap();
+    for string in 0..strings.count() {
+        let text = strings.string(string).unwrap();
         left = left.checked_sub(text.name.len())?;
         left = left.checked_sub(text.body.len())?;
     }
@@ -43,8 +42,8 @@ fn add_strings<S: Source>(strings: &S, rows: &mut Vec<StringRow>, bytes: &mut Ve
     ensures lens { (vec_len rows.new ≡ vec_len rows.old + length (S.Source.strings strings.now)) × (vec_len bytes.new ≡ vec_len bytes.old + strings_bytes (S.Source.strings strings.now)) }
     ensures capacity { (vec_capacity rows.old ≤ vec_capacity rows.new) × (vec_capacity bytes.old ≤ vec_capacity bytes.new) }
 {
-    for s in 0..strings.count() {
-        let text = strings.string(s).unwrap();
+    for string in 0..strings.count() {
+        let text = strings.string(string).unwrap();
         append(bytes, text.name);
         append(bytes, text.body);
         rows.push_reserved(StringRow {

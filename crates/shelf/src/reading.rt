@@ -2,8 +2,8 @@
 ghost use Rattle.std.specs.Prelude.{◌≡◌};
 ghost use Rattle.std.specs.Option.{option_map};
 ghost use Rattle.std.specs.List.{slice_get};
-ghost use Rattle.shelf.specs.Decoding.{strings_in};
 ghost use Rattle.library.specs.Views.{string_viewed};
+ghost use Rattle.shelf.specs.Decoding.{strings_in};
 ghost use Rattle.shelf.specs.Places.{program_viewed};
 ghost use Rattle.shelf.specs.Shelved.{meaning_of, programs_of};
 

@@ -12,19 +12,19 @@ unwrap-text-requires g c = grind (arith, gets, c.string.ensures)
 pub append-requires : goal.append-requires
 append-requires g c =
     let ss = g.S.Source.strings c.args.strings.now in
-    let within = bytes_within ss c.loop-s.s _ (handed string_viewed _ _ ss c.loop-s.s c.unwrap-text.ensures c.string.ensures) in
+    let within = bytes_within ss c.loop-string.string _ (handed string_viewed _ _ ss c.loop-string.string c.unwrap-text.ensures c.string.ensures) in
     omega arith
 
-pub append-requires-in-loop-s : goal.append-requires-in-loop-s
-append-requires-in-loop-s g c =
+pub append-requires-in-loop-string : goal.append-requires-in-loop-string
+append-requires-in-loop-string g c =
     let ss = g.S.Source.strings c.args.strings.now in
-    let within = bytes_within ss c.loop-s.s _ (handed string_viewed _ _ ss c.loop-s.s c.unwrap-text.ensures c.string.ensures) in
+    let within = bytes_within ss c.loop-string.string _ (handed string_viewed _ _ ss c.loop-string.string c.unwrap-text.ensures c.string.ensures) in
     omega arith
 
-pub loop-s-preserved : goal.loop-s-preserved
-loop-s-preserved g c =
+pub loop-string-preserved : goal.loop-string-preserved
+loop-string-preserved g c =
     let ss = g.S.Source.strings c.args.strings.now in
-    let i = c.loop-s.s in
+    let i = c.loop-string.string in
     let here = handed string_viewed _ _ ss i c.unwrap-text.ensures c.string.ensures in
     let next = bytes_next ss i _ here in
     let row = rows_next ss i _ here in

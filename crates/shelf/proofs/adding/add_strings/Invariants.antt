@@ -4,11 +4,11 @@ use Rattle.library.specs.Keeping.{strings_bytes}
 use Rattle.shelf.specs.Adding.{row_of, bytes_of}
 use Rattle.shelf.proofs.adding.add_strings.Given as goal
 
-abbrev pub invariant-loop-s : goal.invariant-loop-s
-invariant-loop-s g l =
-    (vec_items l.rows ≡ vec_items l.initial.rows ++ map row_of (take l.s (g.S.Source.strings l.strings)))
-    × (vec_items l.bytes ≡ vec_items l.initial.bytes ++ flat_map bytes_of (take l.s (g.S.Source.strings l.strings)))
-    × (vec_len l.rows ≡ vec_len l.initial.rows + l.s)
-    × (vec_len l.bytes ≡ vec_len l.initial.bytes + strings_bytes (take l.s (g.S.Source.strings l.strings)))
+abbrev pub invariant-loop-string : goal.invariant-loop-string
+invariant-loop-string g l =
+    (vec_items l.rows ≡ vec_items l.initial.rows ++ map row_of (take l.string (g.S.Source.strings l.strings)))
+    × (vec_items l.bytes ≡ vec_items l.initial.bytes ++ flat_map bytes_of (take l.string (g.S.Source.strings l.strings)))
+    × (vec_len l.rows ≡ vec_len l.initial.rows + l.string)
+    × (vec_len l.bytes ≡ vec_len l.initial.bytes + strings_bytes (take l.string (g.S.Source.strings l.strings)))
     × (vec_capacity l.initial.rows ≤ vec_capacity l.rows)
     × (vec_capacity l.initial.bytes ≤ vec_capacity l.bytes)

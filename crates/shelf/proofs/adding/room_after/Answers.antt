@@ -11,17 +11,17 @@ refused o room size e h =
 pub returns-in_err-left : goal.returns-in_err-left
 returns-in_err-left g c =
     let ss = g.S.Source.strings c.args.strings.now in
-    let within = bytes_within ss c.loop-s.s _ (handed string_viewed _ _ ss c.loop-s.s c.unwrap-text.ensures c.string.ensures) in
+    let within = bytes_within ss c.loop-string.string _ (handed string_viewed _ _ ss c.loop-string.string c.unwrap-text.ensures c.string.ensures) in
     refused _ _ _ c.from_residual.ensures (omega (arith, c.in_err-left.ensures))
 
 pub returns-in_err-left-2 : goal.returns-in_err-left-2
 returns-in_err-left-2 g c =
     let ss = g.S.Source.strings c.args.strings.now in
-    let within = bytes_within ss c.loop-s.s _ (handed string_viewed _ _ ss c.loop-s.s c.unwrap-text.ensures c.string.ensures) in
+    let within = bytes_within ss c.loop-string.string _ (handed string_viewed _ _ ss c.loop-string.string c.unwrap-text.ensures c.string.ensures) in
     refused _ _ _ c.from_residual-in_err-left-2.ensures (omega (arith, c.in_ok-left.ensures, c.in_err-left-2.ensures))
 
-pub loop-s-preserved : goal.loop-s-preserved
-loop-s-preserved g c =
+pub loop-string-preserved : goal.loop-string-preserved
+loop-string-preserved g c =
     let ss = g.S.Source.strings c.args.strings.now in
-    let next = bytes_next ss c.loop-s.s _ (handed string_viewed _ _ ss c.loop-s.s c.unwrap-text.ensures c.string.ensures) in
+    let next = bytes_next ss c.loop-string.string _ (handed string_viewed _ _ ss c.loop-string.string c.unwrap-text.ensures c.string.ensures) in
     omega (arith, c.in_ok-left.ensures, c.in_ok-left-2.ensures)
