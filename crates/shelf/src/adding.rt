@@ -8,15 +8,14 @@ ghost use Rattle.shelf.specs.Shelved.{meaning_of, programs_of};
 
 use crate::rows::{ProgramRow, StringRow};
 use crate::shelf::Shelf;
-use library::{Reader, Source};
+use library::{Reader, Source, each_string};
 
 // What strings leave of so many bytes; `None` if they do not fit.
 fn room_after<S: Source>(strings: &S, room: usize) -> Option<usize>
     ensures { MatchOption result (room < strings_bytes (S.Source.strings strings.now)) (λ left. left + strings_bytes (S.Source.strings strings.now) ≡ room) }
 {
     let mut left = room;
-    for string in 0..strings.count() {
-        let text = strings.string(string).unwrap();
+    for text in each_string(strings) {
         left = left.checked_sub(text.name.len())?;
         left = left.checked_sub(text.body.len())?;
     }
@@ -42,8 +41,7 @@ fn add_strings<S: Source>(strings: &S, rows: &mut Vec<StringRow>, bytes: &mut Ve
     ensures lens { (vec_len rows.new ≡ vec_len rows.old + length (S.Source.strings strings.now)) × (vec_len bytes.new ≡ vec_len bytes.old + strings_bytes (S.Source.strings strings.now)) }
     ensures capacity { (vec_capacity rows.old ≤ vec_capacity rows.new) × (vec_capacity bytes.old ≤ vec_capacity bytes.new) }
 {
-    for string in 0..strings.count() {
-        let text = strings.string(string).unwrap();
+    for text in each_string(strings) {
         append(bytes, text.name);
         append(bytes, text.body);
         rows.push_reserved(StringRow {
