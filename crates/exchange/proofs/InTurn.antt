@@ -1,22 +1,50 @@
 -- The programs of a library as stores in another, one by one.
-use Rattle.std.proofs.Common.{◌≡◌, ℕ, zero, suc, ◌+◌, ◌-◌, ◌<◌, ◌≤◌, false, List, [], ◌∷◌, ◌++◌, take, drop, Some, None, Option, sym, refl, ap, ◌∙◌, append_assoc, add-one, arith}
+use Rattle.std.proofs.Common.{◌≡◌, ℕ, zero, suc, ◌+◌, ◌-◌, ◌<◌, ◌≤◌, Bool, true, false, cond, Ok, Err, List, [], ◌∷◌, ◌++◌, take, drop, Some, None, Option, sym, refl, ap, ◌∙◌, append_assoc, add-one, arith}
+use Rattle.std.specs.Option.{option_map}
 use Rattle.std.proofs.lemmas.List.{append-nil}
 use Rattle.std.proofs.lemmas.Bool.Decides.{nat_tests}
 use Rattle.refusal.specs.Outcome.{kept_or}
 use Rattle.refusal.specs.declared.Refusal.{Refusal}
-use Rattle.library.specs.Meaning.{Program, Library, Lawful, NameLength, name_at, program_at}
+use Rattle.library.specs.Meaning.{Program, Library, Lawful, NameLength, name_at, program_at, strings_of}
 use Rattle.library.specs.Keeping.{store_refusal, with_program}
 use Rattle.library.specs.Name.{fits_name}
 use Rattle.exchange.specs.Stopping.{or_else, first_refusal, until_refused, ComesTo}
 use Rattle.exchange.specs.Copying.{between, stores, store_of, StoredInOrder}
 use Rattle.exchange.proofs.Stopping.{Alike, alike_on, alike_off, alike_end}
 
--- the name of a program of a library can be a program's name
-pub unfit : (ps : List Program) (k : ℕ) (n : List ℕ) → Lawful ps → Some n ≡ name_at ps k → false ≡ fits_name n → ⊥
-unfit ps k n lawful named e = go n (lawful.fit k n (sym named)) e
+-- the name of a program of a library can be a program's name ..
+pub unfit : {N E X : Type 0} (ps : List Program) (k : ℕ) (n : List ℕ) (made : N) (e refusal : E) → Lawful ps → Some n ≡ name_at ps k → Err e ≡ cond (fits_name n) (Ok made) (Err refusal) → X
+unfit ps k n made e refusal lawful named is =
+    let fit : fits_name n ≡ true = go n (lawful.fit k n (sym named)) in
+    absurd (never (fits_name n) made e refusal fit is)
   where
-    go : (n : List ℕ) → NameLength n → false ≡ fits_name n → ⊥
-    go n long e = grind (arith, nat_tests)
+    go : (n : List ℕ) → NameLength n → fits_name n ≡ true
+    go n long = grind (arith, nat_tests)
+
+    never : {N E : Type 0} (b : Bool) (made : N) (e refusal : E) → b ≡ true → Err e ≡ cond b (Ok made) (Err refusal) → ⊥
+    never true made e refusal fit is = cc
+    never false made e refusal fit is = cc
+
+-- .. and is the name made of it
+pub fit : {N E : Type 0} (b : Bool) (made name : N) (refusal : E) → Ok made ≡ cond b (Ok name) (Err refusal) → made ≡ name
+fit true made name refusal is = cc
+fit false made name refusal is = cc
+
+-- that program stored, by its name and its strings
+pub stored_one : (l m : Library) (o : Option Program) (n name : List ℕ) (r : Option Refusal) → n ≡ name → Some name ≡ option_map (λ (p : Program). p.name) o → r ≡ store_refusal l (record { name = n; strings = strings_of o }) → m ≡ kept_or r (with_program l (record { name = n; strings = strings_of o })) l → ComesTo l (store_of o) r m
+stored_one l m None n name r made named refused after = cc
+stored_one l m (Some p) n name r made named refused after =
+    let same : n ≡ p.name = cc in
+    let refusal : r ≡ store_refusal l p = refused ∙ ap (λ (x : List ℕ). store_refusal l (record { name = x; strings = p.strings })) same in
+    record {
+      refusal = refusal ∙ alone (store_refusal l p);
+      left = after ∙ ap (λ (x : Option Refusal). kept_or x (with_program l (record { name = n; strings = p.strings })) l) refusal
+          ∙ ap (λ (x : List ℕ). kept_or (store_refusal l p) (with_program l (record { name = x; strings = p.strings })) l) same;
+    }
+  where
+    alone : (a : Option Refusal) → a ≡ or_else a None
+    alone None = refl
+    alone (Some x) = refl
 
 -- the first of the programs, and those after it
 stores_more : (p end : ℕ) (ps : List Program) → p < end → stores (between p end ps) ≡ store_of (program_at ps p) ++ stores (between (p + 1) end ps)

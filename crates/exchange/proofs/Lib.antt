@@ -1,4 +1,3 @@
 pub mod Same
 pub mod Stopping
 pub mod InTurn
-pub mod Agrees

@@ -1,11 +1,8 @@
 -- Lists, strings and programs that are the same because their parts are.
-use Rattle.std.proofs.Common.{◌≡◌, ℕ, suc, ◌<◌, Bool, true, false, List, [], ◌∷◌, length, Some, None, Decides, Option, refl, sym, ◌∙◌, arith, Bor}
-use Rattle.std.specs.Option.{option_map, option_eq}
-use Rattle.std.specs.Str.{bytes_eq}
-use Rattle.std.specs.List.{slice_get}
-use Rattle.std.proofs.lemmas.Slice.Eq.{bytes_eq-Decides}
-use Rattle.std.proofs.lemmas.Bool.{both_ways}
-use Rattle.library.specs.Meaning.{NamedString, Program, strings_of}
+use Rattle.std.proofs.Common.{◌≡◌, ℕ, suc, ◌<◌, Bool, true, false, List, [], ◌∷◌, length, get_or, subst, ap, Some, Decides, refl, arith}
+use Rattle.std.specs.List.{slice_get, AllWithin, HoldsAt, range_with_len}
+use Rattle.std.specs.Bool.{MatchBool}
+use Rattle.std.proofs.lemmas.List.FromFn.{length-range_with_len, get_or-range_with_len}
 
 -- lists of one length that have the same at each place
 pub same_list : {X : Type 0} (xs ys : List X) → length xs ≡ length ys → ((k : ℕ) → k < length xs → slice_get xs k ≡ slice_get ys k) → xs ≡ ys
@@ -17,39 +14,13 @@ same_list (x ∷ xs) (y ∷ ys) long each =
     let rest = same_list xs ys (omega arith) (λ k h. each (suc k) (omega arith)) in
     cc
 
--- `==` between the bytes that two libraries answer tells whether they are the same
-pub compared : (o p : Option (Bor (List ℕ))) (m n : Option (List ℕ)) (t : Bool) → option_map (λ x. x.now) o ≡ m → option_map (λ x. x.now) p ≡ n → t ≡ option_eq (λ x y. bytes_eq x.now y.now) o p → Decides t (m ≡ n)
-compared None None m n t d e f = ((λ h. cc), (λ h. f))
-compared None (Some y) m n t d e f = ((λ h. cc), (λ h. cc))
-compared (Some x) None m n t d e f = ((λ h. cc), (λ h. cc))
-compared (Some x) (Some y) m n t d e f =
-    let told = bytes_eq-Decides x.now y.now in
-    ((λ h. let same : x.now ≡ y.now = told.0 (sym f ∙ h) in cc), (λ h. f ∙ told.1 (cc)))
-
--- strings, if there are any, that have the same name and the same body
-pub same_string : (s t : Option NamedString) → option_map (λ (x : NamedString). x.name) s ≡ option_map (λ (x : NamedString). x.name) t → option_map (λ (x : NamedString). x.body) s ≡ option_map (λ (x : NamedString). x.body) t → s ≡ t
-same_string None None e f = refl
-same_string None (Some y) e f = cc
-same_string (Some x) None e f = cc
-same_string (Some x) (Some y) e f = let one : x.name ≡ y.name = cc in let two : x.body ≡ y.body = cc in go x.name y.name x.body y.body one two
-  where
-    go : (a b c d : List ℕ) → a ≡ b → c ≡ d → ◌≡◌ {A = Option NamedString} (Some (record { name = a; body = c })) (Some (record { name = b; body = d }))
-    go a b c d e f = cc
-
--- programs, if there are any, that have the same name and the same strings
-pub same_program : (p q : Option Program) → option_map (λ (x : Program). x.name) p ≡ option_map (λ (x : Program). x.name) q → strings_of p ≡ strings_of q → p ≡ q
-same_program None None e f = refl
-same_program None (Some y) e f = cc
-same_program (Some x) None e f = cc
-same_program (Some x) (Some y) e f = let one : x.name ≡ y.name = cc in go x.name y.name x.strings y.strings one f
-  where
-    go : (a b : List ℕ) (c d : List NamedString) → a ≡ b → c ≡ d → ◌≡◌ {A = Option Program} (Some (record { name = a; strings = c })) (Some (record { name = b; strings = d }))
-    go a b c d e f = cc
-
--- Two tests, the second put only where the first says yes: what both together decide, by the answer of the second ..
-pub second_decides : {P Q W : Type 0} (t u : Bool) → Decides t P → Decides u Q → (P → Q → W) → (W → Q) → t ≡ true → Decides u W
-second_decides t u d e join part first = ((λ h. join (d.0 first) (e.0 h)), (λ w. e.1 (part w)))
-
--- .. and by that of the first, which says no.
-pub first_denies : {P W : Type 0} (t : Bool) → Decides t P → (W → P) → t ≡ false → Decides t W
-first_denies t d part left = ((λ h. absurd (both_ways t left h)), (λ w. d.1 (part w)))
+-- a test that tells at each place below n, as far as the lists go, whether they have the same there tells whether they are the same
+pub same_each : {X : Type 0} (xs ys : List X) (n : ℕ) (r : Bool) → n ≡ length xs → length xs ≡ length ys → MatchBool r (AllWithin (λ (k : ℕ). slice_get xs k ≡ slice_get ys k) (range_with_len 0 n) 0 (length (range_with_len 0 n))) ((j : ℕ) × (j < length (range_with_len 0 n)) × HoldsAt (λ (k : ℕ). slice_get xs k ≡ slice_get ys k → ⊥) (range_with_len 0 n) j) → Decides r (xs ≡ ys)
+same_each xs ys n true long same each = (
+  (λ _. same_list xs ys same (λ k h.
+      let at : get_or (range_with_len 0 n) k 0 ≡ k = omega (arith, get_or-range_with_len 0 n k 0 (omega arith)) in
+      subst (λ (j : ℕ). slice_get xs j ≡ slice_get ys j) at (each k 0 (omega arith) (omega (arith, length-range_with_len 0 n))))),
+  (λ _. refl),
+)
+same_each {X = X} xs ys n false long same each =
+    ((λ e. cc), (λ e. absurd (each.2 0 (ap (λ (zs : List X). slice_get zs (get_or (range_with_len 0 n) each.0 0)) e))))

@@ -6,26 +6,18 @@ ghost use Rattle.library.specs.Meaning.{program_at};
 use crate::program_strings::ProgramStrings;
 use library::{Reader, Source};
 
-// Is string `s` the same in both, by its name and its body?
-fn same_string<S: Source, Q: Source>(one: &S, other: &Q, s: usize) -> bool
-    ensures { Decides result (slice_get (S.Source.strings one.now) s ≡ slice_get (Q.Source.strings other.now) s) }
+// Is the string at that place the same in both, by its name and its body?
+fn same_string<S: Source, Q: Source>(one: &S, other: &Q, string: usize) -> bool
+    ensures { Decides result (slice_get (S.Source.strings one.now) string ≡ slice_get (Q.Source.strings other.now) string) }
 {
-    one.name(s) == other.name(s) && one.body(s) == other.body(s)
+    one.string(string) == other.string(string)
 }
 
 fn same_strings<S: Source, Q: Source>(one: &S, other: &Q) -> bool
     ensures { Decides result (S.Source.strings one.now ≡ Q.Source.strings other.now) }
 {
     let count = one.count();
-    if other.count() != count {
-        return false;
-    }
-    for s in 0..count {
-        if !same_string(one, other, s) {
-            return false;
-        }
-    }
-    true
+    other.count() == count && (0..count).all(|string| same_string(one, other, string))
 }
 
 // Is the program at that place the same in both, by its name and its strings?
@@ -48,13 +40,5 @@ pub fn same_programs<R: Reader, Q: Reader>(one: &R, other: &Q) -> bool
     ensures { Decides result ((R.Reader.meaning one.now).programs ≡ (Q.Reader.meaning other.now).programs) }
 {
     let count = one.programs();
-    if other.programs() != count {
-        return false;
-    }
-    for p in 0..count {
-        if !same_program(one, other, p) {
-            return false;
-        }
-    }
-    true
+    other.programs() == count && (0..count).all(|program| same_program(one, other, program))
 }

@@ -19,9 +19,7 @@ fn store_program<R: Reader, K: Keeper>(
     let Some(bytes) = from.name(program) else {
         return Ok(());
     };
-    let Some(name) = ProgramName::new(bytes) else {
-        return Ok(());
-    };
+    let name = ProgramName::try_from(bytes)?;
     let strings = ProgramStrings {
         library: from,
         program,

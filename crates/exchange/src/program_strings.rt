@@ -1,7 +1,7 @@
 // The strings of a program of a library, as they are handed over to be stored.
 ghost use Rattle.library.specs.Meaning.{program_at, strings_of};
 
-use library::{Reader, Source};
+use library::{Reader, Source, StringView};
 
 // Those of the program at that place; none past the last program. They stay where they are.
 #[derive(Drop)]
@@ -17,11 +17,7 @@ impl<'a, R: Reader> Source for ProgramStrings<'a, R> {
         self.library.strings(self.program).unwrap_or(0)
     }
 
-    fn name(&self, string: usize) -> Option<&[u8]> {
-        self.library.string_name(self.program, string)
-    }
-
-    fn body(&self, string: usize) -> Option<&[u8]> {
-        self.library.string_body(self.program, string)
+    fn string(&self, string: usize) -> Option<StringView<'_>> {
+        self.library.string(self.program, string)
     }
 }

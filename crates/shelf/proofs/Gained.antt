@@ -2,6 +2,7 @@
 use Rattle.std.proofs.Common.{◌≡◌, ℕ, ◌+◌, ◌≤◌, true, List, [], ◌∷◌, ◌++◌, map, length, take, drop, vec_items, vec_len, refl, ap, ◌∙◌, append_assoc, arith}
 use Rattle.std.specs.List.{flat_map}
 use Rattle.std.proofs.lemmas.List.{take_at, drop_at, take_all, length-map, length-append}
+use Rattle.std.proofs.lemmas.List.Sums.{sum_by-append, sum_by-cons, sum_by_push}
 use Rattle.std.proofs.lemmas.Bool.Decides.{nat_tests}
 use Rattle.library.specs.Meaning.{NamedString, Program}
 use Rattle.library.specs.Keeping.{strings_bytes, fits}
@@ -12,9 +13,8 @@ use Rattle.shelf.specs.declared.shelf.Shelf.{Shelf}
 use Rattle.shelf.specs.Decoding.{string_count, name_sizes, text_sizes, sizes, strings_in, program_in, decoded}
 use Rattle.shelf.specs.Adding.{row_of, bytes_of}
 use Rattle.shelf.specs.Shelved.{programs_of}
-use Rattle.shelf.proofs.Totals.{total_++}
 use Rattle.shelf.proofs.Packed.{row_strings, row_name, row_text, program_parts, decoded_++}
-use Rattle.shelf.proofs.Meant.{consistent_of, filled_of}
+use Rattle.shelf.proofs.Meant.{counted_of, filled_of}
 
 abbrev made : List ℕ → List ℕ → List NamedString → List NamedString
 made n b ss = record { name = n; body = b } ∷ ss
@@ -39,7 +39,7 @@ strings_back (s ∷ ss) =
 
 text_sizes_back : (ss : List NamedString) → text_sizes (map row_of ss) ≡ strings_bytes ss
 text_sizes_back [] = refl
-text_sizes_back (s ∷ ss) = omega (arith, text_sizes_back ss)
+text_sizes_back (s ∷ ss) = omega (arith, sum_by-cons row_text (row_of s) (map row_of ss), text_sizes_back ss)
 
 program_back : (name : List ℕ) (ss : List NamedString) (n : ℕ) → n ≡ length ss → program_in (record { name = length name; strings = n }) (map row_of ss) (name ++ flat_map bytes_of ss) ≡ program_parts name ss
 program_back name ss n e =
@@ -65,9 +65,9 @@ gained s name strings n P S M B en eP eS eM eB =
     let ss = vec_items s.strings in
     let bs = vec_items s.bytes in
     let x : ProgramRow = record { name = length name; strings = n } in
-    let cP : string_count P ≡ string_count ps + (n + 0) = ap string_count eP ∙ total_++ row_strings ps (x ∷ []) in
-    let nP : name_sizes P ≡ name_sizes ps + (length name + 0) = ap name_sizes eP ∙ total_++ row_name ps (x ∷ []) in
-    let tS : text_sizes S ≡ text_sizes ss + text_sizes (map row_of strings) = ap text_sizes eS ∙ total_++ row_text ss (map row_of strings) in
+    let cP : string_count P ≡ string_count ps + n = ap string_count eP ∙ sum_by_push row_strings ps x in
+    let nP : name_sizes P ≡ name_sizes ps + length name = ap name_sizes eP ∙ sum_by_push row_name ps x in
+    let tS : text_sizes S ≡ text_sizes ss + text_sizes (map row_of strings) = ap text_sizes eS ∙ sum_by-append row_text ss (map row_of strings) in
     let B-is : B ≡ bs ++ (name ++ flat_map bytes_of strings) = eB ∙ ap (λ (l : List ℕ). l ++ flat_map bytes_of strings) eM ∙ append_assoc bs name (flat_map bytes_of strings) in
     record {
       counted = omega (arith, s.counted);
@@ -76,7 +76,7 @@ gained s name strings n P S M B en eP eS eM eB =
           ap (λ (y : List ProgramRow). decoded y S B) eP
           ∙ ap (λ (y : List StringRow). decoded (ps ++ x ∷ []) y B) eS
           ∙ ap (λ (y : List ℕ). decoded (ps ++ x ∷ []) (ss ++ map row_of strings) y) B-is
-          ∙ decoded_++ ps (x ∷ []) ss (map row_of strings) bs (name ++ flat_map bytes_of strings) (consistent_of s).counted (filled_of s)
+          ∙ decoded_++ ps (x ∷ []) ss (map row_of strings) bs (name ++ flat_map bytes_of strings) (counted_of s) (filled_of s)
           ∙ ap (λ (y : Program). programs_of s ++ y ∷ []) (program_back name strings n en);
     }
 

@@ -1,6 +1,5 @@
 pub mod Totals
 pub mod Packed
-pub mod Handed
 pub mod Laws
 pub mod Meant
 pub mod Gained

@@ -1,25 +1,36 @@
 -- What a shelf means, by its parts.
-use Rattle.std.proofs.Common.{◌≡◌, ℕ, ◌<◌, false, List, length, vec_items, vec_len, ◌∙◌, arith}
+use Rattle.std.proofs.Common.{◌≡◌, ℕ, ◌≤◌, false, List, length, vec_items, vec_len, Some, ◌∙◌, arith}
+use Rattle.std.specs.List.{slice_get}
+use Rattle.std.proofs.lemmas.List.Sums.{sum_by-take-le}
 use Rattle.library.specs.Meaning.{Program, Library, Lawful}
+use Rattle.shelf.specs.declared.rows.ProgramRow.{ProgramRow}
 use Rattle.shelf.specs.declared.shelf.Shelf.{Shelf}
-use Rattle.shelf.specs.Decoding.{Consistent, sizes}
+use Rattle.shelf.specs.Decoding.{string_count, sizes}
+use Rattle.shelf.specs.Places.{first_string, first_byte}
 use Rattle.shelf.specs.Shelved.{programs_of}
-use Rattle.shelf.proofs.Packed.{Spanned, spanned}
+use Rattle.shelf.proofs.Packed.{Spanned, spanned, row_strings, row_name, row_text}
+
+pub counted_of : (s : Shelf) → string_count (vec_items s.programs) ≡ length (vec_items s.strings)
+counted_of s = s.counted ∙ s.strings.ok.0
 
 pub filled_of : (s : Shelf) → sizes (vec_items s.programs) (vec_items s.strings) ≡ length (vec_items s.bytes)
 filled_of s = s.filled ∙ s.bytes.ok.0
 
-pub consistent_of : (s : Shelf) → Consistent (vec_items s.programs) (vec_items s.strings)
-consistent_of s =
+-- what lies before a program
+pub record Before (s : Shelf) (p : ℕ) : Type 0 where
+  pub strings : first_string p (vec_items s.programs) ≤ vec_len s.strings
+  pub bytes : first_byte p (vec_items s.programs) (vec_items s.strings) ≤ vec_len s.bytes
+
+pub before : (s : Shelf) (p : ℕ) → Before s p
+before s p =
     record {
-      counted = s.counted ∙ s.strings.ok.0;
-      short = omega (arith, s.strings_bounded, s.strings.ok.0);
-      small = omega (arith, s.filled, s.bytes_bounded);
+      strings = omega (arith, s.counted, sum_by-take-le row_strings (vec_items s.programs) p);
+      bytes = omega (arith, s.filled, sum_by-take-le row_name (vec_items s.programs) p, sum_by-take-le row_text (vec_items s.strings) (first_string p (vec_items s.programs)));
     }
 
 -- what program p takes
-pub span_of : (s : Shelf) (p : ℕ) → p < vec_len s.programs → Spanned p (vec_items s.programs) (vec_items s.strings)
-span_of s p h = spanned p (vec_items s.programs) (vec_items s.strings) (omega (arith, s.programs.ok.0)) (consistent_of s).counted
+pub span_of : (s : Shelf) (p : ℕ) (r : ProgramRow) → slice_get (vec_items s.programs) p ≡ Some r → Spanned p r (vec_items s.programs) (vec_items s.strings)
+span_of s p r there = spanned p r (vec_items s.programs) (vec_items s.strings) there (counted_of s)
 
 pub lawful_of : (s : Shelf) → Lawful (programs_of s)
 lawful_of s = record { fit = s.fit; distinct = s.distinct }

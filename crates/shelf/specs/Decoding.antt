@@ -1,25 +1,20 @@
 -- What packed rows mean: rows have lengths only, and the bytes lie in the order of the rows, without gaps.
-use Rattle.std.specs.Prelude.{◌≡◌, ℕ, ◌+◌, ◌≤◌, List, [], ◌∷◌, length, take, drop}
+use Rattle.std.specs.Prelude.{ℕ, ◌+◌, List, [], ◌∷◌, take, drop, sum_by}
 use Rattle.library.specs.Meaning.{NamedString, Program}
 use Rattle.shelf.specs.declared.rows.ProgramRow.{ProgramRow}
 use Rattle.shelf.specs.declared.rows.StringRow.{StringRow}
 
--- the sum of a number of each row
-abbrev pub total : {X : Type 0} → (X → ℕ) → List X → ℕ
-total size [] = 0
-total size (x ∷ xs) = size x + total size xs
-
 -- how many strings programs have
 abbrev pub string_count : List ProgramRow → ℕ
-string_count ps = total (λ (p : ProgramRow). p.strings) ps
+string_count ps = sum_by (λ (p : ProgramRow). p.strings) ps
 
 -- the bytes of the names of programs
 abbrev pub name_sizes : List ProgramRow → ℕ
-name_sizes ps = total (λ (p : ProgramRow). p.name) ps
+name_sizes ps = sum_by (λ (p : ProgramRow). p.name) ps
 
 -- the bytes of the names and bodies of strings
 abbrev pub text_sizes : List StringRow → ℕ
-text_sizes ss = total (λ (s : StringRow). s.name + s.body) ss
+text_sizes ss = sum_by (λ (s : StringRow). s.name + s.body) ss
 
 -- the strings of so many bytes each, from the front of the bytes
 abbrev pub strings_in : List StringRow → List ℕ → List NamedString
@@ -43,9 +38,3 @@ decoded (p ∷ ps) ss bytes =
 -- the bytes that programs and their strings take
 abbrev pub sizes : List ProgramRow → List StringRow → ℕ
 sizes ps ss = name_sizes ps + text_sizes ss
-
--- every string belongs to a program, and a shelf has room for all of them
-pub record Consistent (ps : List ProgramRow) (ss : List StringRow) : Type 0 where
-  pub counted : string_count ps ≡ length ss
-  pub short : length ss ≤ 128
-  pub small : sizes ps ss ≤ 8192

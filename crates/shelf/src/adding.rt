@@ -1,36 +1,21 @@
 // A program that is added at the end of a shelf.
-ghost use Rattle.std.specs.Prelude.{◌≡◌, ◌+◌, ◌<◌, ◌≤◌, true, false, ◌++◌, map, length, is_some, Some, vec_len, vec_capacity, MatchOption};
-ghost use Rattle.std.specs.List.{flat_map, slice_get};
-ghost use Rattle.library.specs.Meaning.{NameLength};
-ghost use Rattle.library.specs.Meaning.{place as place_in};
+ghost use Rattle.std.specs.Prelude.{◌≡◌, ◌+◌, ◌<◌, ◌≤◌, true, false, ◌++◌, map, length, is_some, vec_len, vec_capacity, MatchOption};
+ghost use Rattle.std.specs.List.{flat_map};
+ghost use Rattle.library.specs.Meaning.{NameLength, place as place_in};
 ghost use Rattle.library.specs.Keeping.{strings_bytes, space_of, fits, with_program};
 ghost use Rattle.shelf.specs.Adding.{row_of, bytes_of};
-ghost use Rattle.shelf.specs.Places.{string_viewed};
 ghost use Rattle.shelf.specs.Shelved.{meaning_of, programs_of};
 
 use crate::rows::{ProgramRow, StringRow};
 use crate::shelf::Shelf;
-use crate::views::StringView;
-use library::{Reader, Source};
-
-// A string that is handed over.
-fn handed<S: Source>(strings: &S, string: usize) -> StringView<'_>
-    requires { string < length (S.Source.strings strings.now) }
-    ensures { slice_get (S.Source.strings strings.now) string ≡ Some (string_viewed result) }
-{
-    StringView {
-        name: strings.name(string).unwrap(),
-        body: strings.body(string).unwrap(),
-    }
-}
+use library::{Reader, Source, each_string};
 
 // What strings leave of so many bytes; `None` if they do not fit.
 fn room_after<S: Source>(strings: &S, room: usize) -> Option<usize>
     ensures { MatchOption result (room < strings_bytes (S.Source.strings strings.now)) (λ left. left + strings_bytes (S.Source.strings strings.now) ≡ room) }
 {
     let mut left = room;
-    for s in 0..strings.count() {
-        let text = handed(strings, s);
+    for text in each_string(strings) {
         left = left.checked_sub(text.name.len())?;
         left = left.checked_sub(text.body.len())?;
     }
@@ -42,11 +27,9 @@ fn append(bytes: &mut Vec<u8>, more: &[u8])
     requires { vec_len bytes.old + length more.now ≤ vec_capacity bytes.old }
     ensures items { bytes.new.items ≡ bytes.old.items ++ more.now }
     ensures len { vec_len bytes.new ≡ vec_len bytes.old + length more.now }
-    ensures capacity { vec_capacity bytes.new ≡ vec_capacity bytes.old }
+    ensures capacity { vec_capacity bytes.old ≤ vec_capacity bytes.new }
 {
-    for byte in more {
-        bytes.push_reserved(*byte);
-    }
+    bytes.extend_from_slice(more).unwrap();
 }
 
 // Adds the rows and the bytes of strings.
@@ -56,10 +39,9 @@ fn add_strings<S: Source>(strings: &S, rows: &mut Vec<StringRow>, bytes: &mut Ve
     ensures rows { rows.new.items ≡ rows.old.items ++ map row_of (S.Source.strings strings.now) }
     ensures bytes { bytes.new.items ≡ bytes.old.items ++ flat_map bytes_of (S.Source.strings strings.now) }
     ensures lens { (vec_len rows.new ≡ vec_len rows.old + length (S.Source.strings strings.now)) × (vec_len bytes.new ≡ vec_len bytes.old + strings_bytes (S.Source.strings strings.now)) }
-    ensures capacity { (vec_capacity rows.new ≡ vec_capacity rows.old) × (vec_capacity bytes.new ≡ vec_capacity bytes.old) }
+    ensures capacity { (vec_capacity rows.old ≤ vec_capacity rows.new) × (vec_capacity bytes.old ≤ vec_capacity bytes.new) }
 {
-    for s in 0..strings.count() {
-        let text = handed(strings, s);
+    for text in each_string(strings) {
         append(bytes, text.name);
         append(bytes, text.body);
         rows.push_reserved(StringRow {

@@ -17,9 +17,7 @@ impl Keeper for Shelf {
     }
 
     fn delete(&mut self, name: &ProgramName) -> Result<(), Refusal> {
-        let Some(program) = find_program(self, name.as_bytes()) else {
-            return Err(Refusal::ProgramAbsent);
-        };
+        let program = find_program(self, name.as_bytes()).ok_or(Refusal::ProgramAbsent)?;
         self.remove(program);
         Ok(())
     }

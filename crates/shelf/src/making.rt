@@ -10,13 +10,10 @@ impl Shelf {
     pub fn new(heap: Global) -> Result<Shelf, AllocError>
         ensures { IfOk result (λ s. meaning_of s ≡ empty_library) }
     {
-        let programs = Vec::with_capacity(heap, PROGRAMS)?;
-        let strings = Vec::with_capacity(heap, STRINGS)?;
-        let bytes = Vec::with_capacity(heap, BYTES)?;
         Ok(Shelf {
-            programs,
-            strings,
-            bytes,
+            programs: Vec::with_capacity(heap, PROGRAMS)?,
+            strings: Vec::with_capacity(heap, STRINGS)?,
+            bytes: Vec::with_capacity(heap, BYTES)?,
         })
     }
 }

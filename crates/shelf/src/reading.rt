@@ -1,27 +1,45 @@
 // A shelf as a library that is read.
-ghost use Rattle.std.specs.Prelude.{◌≡◌, ◌≤◌, length, IfSome};
+ghost use Rattle.std.specs.Prelude.{◌≡◌};
 ghost use Rattle.std.specs.Option.{option_map};
 ghost use Rattle.std.specs.List.{slice_get};
-ghost use Rattle.shelf.specs.Decoding.{text_sizes};
+ghost use Rattle.library.specs.Views.{string_viewed};
+ghost use Rattle.shelf.specs.Decoding.{strings_in};
 ghost use Rattle.shelf.specs.Places.{program_viewed};
 ghost use Rattle.shelf.specs.Shelved.{meaning_of, programs_of};
 
+use crate::places::{Place, text_size};
 use crate::shelf::{BYTES, PROGRAMS, STRINGS, Shelf};
-use crate::views::{ProgramView, view_program, view_string};
-use library::{Reader, Space};
+use crate::views::ProgramView;
+use library::{Reader, Space, StringView};
 
 impl Shelf {
     // A program on the shelf.
     fn view(&self, program: usize) -> Option<ProgramView<'_>>
-        ensures value { option_map program_viewed result ≡ slice_get (programs_of self.now) program }
-        ensures there { IfSome result (λ v. text_sizes v.rows.now ≤ length v.texts.now) }
+        ensures { option_map program_viewed result ≡ slice_get (programs_of self.now) program }
     {
-        view_program(
-            self.programs.as_slice(),
-            self.strings.as_slice(),
-            self.bytes.as_slice(),
-            program,
-        )
+        let row = self.programs.get(program)?;
+        let Place { string, byte } = self.place(program);
+        let (name, texts) = self.bytes[byte..].split_at(row.name);
+        Some(ProgramView {
+            name,
+            rows: &self.strings[string..string + row.strings],
+            texts,
+        })
+    }
+}
+
+impl<'a> ProgramView<'a> {
+    // A string of the program.
+    fn string(&self, string: usize) -> Option<StringView<'a>>
+        ensures { option_map string_viewed result ≡ slice_get (strings_in self.now.rows.now self.now.texts.now) string }
+    {
+        let row = self.rows.get(string)?;
+        let start = text_size(&self.rows[..string]);
+        let (name, rest) = self.texts[start..].split_at(row.name);
+        Some(StringView {
+            name,
+            body: &rest[..row.body],
+        })
     }
 }
 
@@ -35,25 +53,15 @@ impl Reader for Shelf {
     }
 
     fn name(&self, program: usize) -> Option<&[u8]> {
-        let view = self.view(program)?;
-        Some(view.name)
+        self.view(program).map(|view| view.name)
     }
 
     fn strings(&self, program: usize) -> Option<usize> {
-        let view = self.view(program)?;
-        Some(view.rows.len())
+        self.view(program).map(|view| view.rows.len())
     }
 
-    fn string_name(&self, program: usize, string: usize) -> Option<&[u8]> {
-        let view = self.view(program)?;
-        let text = view_string(view.rows, view.texts, string)?;
-        Some(text.name)
-    }
-
-    fn string_body(&self, program: usize, string: usize) -> Option<&[u8]> {
-        let view = self.view(program)?;
-        let text = view_string(view.rows, view.texts, string)?;
-        Some(text.body)
+    fn string(&self, program: usize, string: usize) -> Option<StringView<'_>> {
+        self.view(program)?.string(string)
     }
 
     fn space(&self) -> Space {

@@ -1,6 +1,11 @@
-use Rattle.exchange.proofs.InTurn.{unfit}
+use Rattle.library.specs.Meaning.{program_at}
+use Rattle.exchange.proofs.InTurn.{unfit, fit, stored_one}
 use Rattle.exchange.proofs.copying.store_program.Goals as goal
 
-pub returns-in_default-new : goal.returns-in_default-new
-returns-in_default-new g c =
-    absurd (unfit (g.R.Reader.meaning c.args.from.now).programs c.args.program c.in-Some.bytes.now (g.R.Reader.lawful c.args.from.now) c.in-Some.ensures c.in_default-new.ensures.made)
+pub returns-in_err-name : goal.returns-in_err-name
+returns-in_err-name g c =
+    unfit (g.R.Reader.meaning c.args.from.now).programs c.args.program c.in-Some.bytes.now _ _ _ (g.R.Reader.lawful c.args.from.now) c.in-Some.ensures c.in_err-name.ensures
+
+pub returns : goal.returns
+returns g c =
+    stored_one _ _ (program_at (g.R.Reader.meaning c.args.from.now).programs c.args.program) _ c.in-Some.bytes.now _ (fit _ _ _ _ c.in_ok-name.ensures) c.in-Some.ensures c.store.ensures.refusal c.store.ensures.after

@@ -1,6 +1,7 @@
-use Rattle.std.proofs.Common.{◌≡◌, ◌+◌, take}
+use Rattle.std.proofs.Common.{◌≡◌, ◌+◌}
 use Rattle.library.specs.Keeping.{strings_bytes}
+use Rattle.library.specs.Iterators.{strings_left}
 use Rattle.shelf.proofs.adding.room_after.Given as goal
 
-abbrev pub invariant-loop-s : goal.invariant-loop-s
-invariant-loop-s g l = l.left + strings_bytes (take l.s (g.S.Source.strings l.strings)) ≡ l.room
+abbrev pub invariant-loop-text : goal.invariant-loop-text
+invariant-loop-text g l = l.left + strings_bytes (g.S.Source.strings l.strings) ≡ l.room + strings_bytes (strings_left l.text-iterator)

@@ -1,18 +1,15 @@
-use Rattle.std.proofs.Common.{ap, ◌∙◌, arith}
-use Rattle.std.proofs.lemmas.List.{take_all}
+use Rattle.std.proofs.Common.{◌≡◌, ℕ, ◌+◌, ◌<◌, ◌^◌, List, length, get_or, ap, arith, Fits, w64}
+use Rattle.std.proofs.iter.Serving.{serving}
+use Rattle.std.proofs.lemmas.List.Sums.{sum_by_more_le}
+use Rattle.shelf.specs.declared.rows.StringRow.{StringRow}
 use Rattle.shelf.specs.Decoding.{text_sizes}
-use Rattle.shelf.proofs.Packed.{no_string, row_text}
-use Rattle.shelf.proofs.Totals.{total_next, total_within}
+use Rattle.shelf.proofs.Packed.{row_text}
 use Rattle.shelf.proofs.places.text_size.Goals as goal
 
-pub overflow_add-size : goal.overflow_add-size
-overflow_add-size c = omega (arith, total_within row_text c.args.rows.now c.loop-row.row-index no_string (omega arith))
+row_fits : (rows : List StringRow) (k : ℕ) (r : StringRow) → k < length rows → r ≡ get_or rows k r → text_sizes rows < 2 ^ 64 → Fits w64 (r.name + r.body)
+row_fits rows k r h e small =
+    let here : row_text r ≡ row_text (get_or rows k r) = ap row_text e in
+    omega (arith, sum_by_more_le row_text rows k r h)
 
-pub overflow_add-size-in-loop-row : goal.overflow_add-size-in-loop-row
-overflow_add-size-in-loop-row c = omega (arith, total_within row_text c.args.rows.now c.loop-row.row-index no_string (omega arith))
-
-pub loop-row-preserved : goal.loop-row-preserved
-loop-row-preserved c = omega (arith, total_next row_text c.args.rows.now c.loop-row.row-index no_string (omega arith))
-
-pub returns : goal.returns
-returns c = c.loop-row.invariant ∙ ap text_sizes (take_all _ c.args.rows.now (omega arith))
+pub sum-requires-clause-can : goal.sum-requires-clause-can
+sum-requires-clause-can c = grind (serving, row_fits)
