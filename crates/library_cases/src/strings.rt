@@ -1,7 +1,7 @@
 // The strings of a program that a script stores.
 ghost use Rattle.library_cases.specs.Handed.{handed};
 
-use library::Source;
+use library::{Source, StringView};
 
 #[derive(Drop)]
 pub struct Text {
@@ -21,13 +21,11 @@ impl Source for Strings {
         self.texts.len()
     }
 
-    fn name(&self, string: usize) -> Option<&[u8]> {
+    fn string(&self, string: usize) -> Option<StringView<'_>> {
         let text = self.texts.get(string)?;
-        Some(text.name.as_slice())
-    }
-
-    fn body(&self, string: usize) -> Option<&[u8]> {
-        let text = self.texts.get(string)?;
-        Some(text.body.as_slice())
+        Some(StringView {
+            name: &text.name,
+            body: &text.body,
+        })
     }
 }
