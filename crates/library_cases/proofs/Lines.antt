@@ -1,17 +1,16 @@
 -- Parts of a library's text as formats give them: each part before all that follow.
-use Rattle.std.proofs.Common.{◌≡◌, ℕ, List, ◌++◌, cond, true, false, Bool, Some, None, codes, decimal, Option, append_assoc, refl, ap, ◌∙◌}
-use Rattle.std.specs.Option.{option_map}
+use Rattle.std.proofs.Common.{◌≡◌, ℕ, List, [], ◌++◌, cond, true, false, Bool, Some, None, codes, decimal, Option, append_assoc, refl, ap, ◌∙◌}
+use Rattle.std.specs.Option.{option_map, option_map_or}
 use Rattle.std.specs.List.{flat_map}
 use Rattle.library.specs.Meaning.{Library, Program, strings_of}
 use Rattle.library.specs.declared.space.Space.{Space}
-use Rattle.listing.specs.Listing.{shown_if}
 use Rattle.library_cases.specs.Showing.{shown_bytes, shown_string, shown_program, shown_lock, shown_space, shown_library}
 
 name_first : (a name b rest : List ℕ) → (a ++ (name ++ b)) ++ rest ≡ a ++ name ++ b ++ rest
 name_first a name b rest = simp append_assoc
 
 pub program_is : (o : Option Program) (name : List ℕ) → Some name ≡ option_map (λ (p : Program). p.name) o
-    → (codes " " ++ (shown_bytes name ++ codes ":")) ++ flat_map shown_string (strings_of o) ≡ shown_if shown_program o
+    → (codes " " ++ (shown_bytes name ++ codes ":")) ++ flat_map shown_string (strings_of o) ≡ option_map_or shown_program o []
 unfolding shown_program
 program_is None name n = cc
 program_is (Some p) name n = let same : name ≡ p.name = cc in rw same (name_first (codes " ") _ (codes ":") _)

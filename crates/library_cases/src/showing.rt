@@ -1,9 +1,9 @@
 // Answers in words.
-ghost use Rattle.std.specs.Prelude.{Some};
+ghost use Rattle.std.specs.Prelude.{[], Some};
+ghost use Rattle.std.specs.Option.{option_map_or};
 ghost use Rattle.std.specs.Result.{result_err};
 ghost use Rattle.library.specs.Meaning.{program_at};
 ghost use Rattle.library.specs.Views.{string_viewed};
-ghost use Rattle.listing.specs.Listing.{shown_if};
 ghost use Rattle.library_cases.specs.Showing.{shown_bytes, shown_string, shown_program, shown_library, shown_outcome, shown_place};
 
 use hex_text::Hex;
@@ -64,6 +64,7 @@ struct ShownString<'a>(StringView<'a>);
 impl fmt::Display for ShownString<'_> {
     ghost output = { λ s. Some (shown_string (string_viewed s.0)) };
 
+    #[tactic(auto, unfolding(crate::specs::Showing::shown_string))]
     fn fmt<W: fmt::Write>(&self, f: &mut fmt::Formatter<W>) -> fmt::Result {
         let StringView { name, body } = self.0;
         write!(f, " {}={}", ShownBytes(name), ShownBytes(body))
@@ -78,7 +79,7 @@ struct ShownProgram<'a, R> {
 }
 
 impl<R: Reader> fmt::Display for ShownProgram<'_, R> {
-    ghost output = { λ s. Some (shown_if shown_program (program_at (R.Reader.meaning s.library.now).programs s.program)) };
+    ghost output = { λ s. Some (option_map_or shown_program (program_at (R.Reader.meaning s.library.now).programs s.program) []) };
 
     fn fmt<W: fmt::Write>(&self, f: &mut fmt::Formatter<W>) -> fmt::Result {
         let ShownProgram { library, program } = *self;

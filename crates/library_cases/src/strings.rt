@@ -1,5 +1,7 @@
 // The strings of a program that a script stores.
-ghost use Rattle.library_cases.specs.Handed.{handed};
+ghost use Rattle.std.specs.Prelude.{◌≡◌};
+ghost use Rattle.library.specs.Views.{string_viewed};
+ghost use Rattle.library_cases.specs.Handed.{named, handed};
 
 use library::{Source, StringView};
 
@@ -7,6 +9,17 @@ use library::{Source, StringView};
 pub struct Text {
     pub name: Vec<u8>,
     pub body: Vec<u8>,
+}
+
+impl Text {
+    fn view(&self) -> StringView<'_>
+        ensures { string_viewed result ≡ named self.now }
+    {
+        StringView {
+            name: &self.name,
+            body: &self.body,
+        }
+    }
 }
 
 #[derive(Drop)]
@@ -22,10 +35,6 @@ impl Source for Strings {
     }
 
     fn string(&self, string: usize) -> Option<StringView<'_>> {
-        let text = self.texts.get(string)?;
-        Some(StringView {
-            name: &text.name,
-            body: &text.body,
-        })
+        self.texts.get(string).map(Text::view)
     }
 }

@@ -50,11 +50,6 @@ shown_program code glyph p =
     ++ codes ", strings: " ++ decimal (length p.strings) ++ codes "\n"
     ++ flat_map (shown_string code glyph) p.strings
 
--- one of several, or nothing past the last one
-abbrev pub shown_if : {X : Type 0} → (X → List ℕ) → Option X → List ℕ
-shown_if f None = []
-shown_if f (Some x) = f x
-
 -- The library.
 
 -- how many strings the programs have together

@@ -30,6 +30,7 @@ pub struct Listing<'a, C, R> {
 impl<C: Glyphs, R: Reader> fmt::Display for Listing<'_, C, R> {
     ghost output = { λ l. Some (listing C.Code.meaning C.Glyphs.title C.Glyphs.glyph (R.Reader.meaning l.library.now)) };
 
+    #[tactic(auto, unfolding(crate::specs::Listing::listing))]
     fn fmt<W: fmt::Write>(&self, f: &mut fmt::Formatter<W>) -> fmt::Result {
         let Listing { code, library } = *self;
         let head = Head { code, library };

@@ -1,9 +1,10 @@
 // Strings and programs as text.
-ghost use Rattle.std.specs.Prelude.{Some};
+ghost use Rattle.std.specs.Prelude.{[], Some};
+ghost use Rattle.std.specs.Option.{option_map_or};
 ghost use Rattle.std.specs.List.{flat_map};
 ghost use Rattle.library.specs.Meaning.{program_at};
 ghost use Rattle.library.specs.Views.{string_viewed};
-ghost use Rattle.listing.specs.Listing.{shown_string, shown_program, shown_if};
+ghost use Rattle.listing.specs.Listing.{shown_string, shown_program};
 
 use crate::glyphs::Glyphs;
 use crate::text::ShownText;
@@ -20,6 +21,7 @@ struct ShownString<'a, C> {
 impl<C: Glyphs> fmt::Display for ShownString<'_, C> {
     ghost output = { λ s. Some (shown_string C.Code.meaning C.Glyphs.glyph (string_viewed s.string)) };
 
+    #[tactic(auto, unfolding(crate::specs::Listing::shown_string))]
     fn fmt<W: fmt::Write>(&self, f: &mut fmt::Formatter<W>) -> fmt::Result {
         let code = self.code;
         let StringView { name, body } = self.string;
@@ -39,7 +41,7 @@ struct ShownProgram<'a, C, R> {
 }
 
 impl<C: Glyphs, R: Reader> fmt::Display for ShownProgram<'_, C, R> {
-    ghost output = { λ s. Some (shown_if (shown_program C.Code.meaning C.Glyphs.glyph) (program_at (R.Reader.meaning s.library.now).programs s.program)) };
+    ghost output = { λ s. Some (option_map_or (shown_program C.Code.meaning C.Glyphs.glyph) (program_at (R.Reader.meaning s.library.now).programs s.program) []) };
 
     fn fmt<W: fmt::Write>(&self, f: &mut fmt::Formatter<W>) -> fmt::Result {
         let ShownProgram {

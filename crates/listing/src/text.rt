@@ -15,6 +15,7 @@ struct ShownByte<'a, C> {
 impl<C: Glyphs> fmt::Display for ShownByte<'_, C> {
     ghost output = { λ s. Some (shown_byte C.Code.meaning C.Glyphs.glyph s.byte) };
 
+    #[tactic(auto, unfolding(crate::specs::Listing::shown_byte))]
     fn fmt<W: fmt::Write>(&self, f: &mut fmt::Formatter<W>) -> fmt::Result {
         let byte = self.byte;
         if byte == self.code.end_of_line() {
@@ -45,8 +46,8 @@ impl<C: Glyphs> fmt::Display for ShownText<'_, C> {
 
     fn fmt<W: fmt::Write>(&self, f: &mut fmt::Formatter<W>) -> fmt::Result {
         let code = self.code;
-        for byte in self.text {
-            write!(f, "{}", ShownByte { code, byte: *byte })?;
+        for &byte in self.text {
+            write!(f, "{}", ShownByte { code, byte })?;
         }
         Ok(())
     }

@@ -1,11 +1,19 @@
-use Rattle.std.proofs.Common.{◌≡◌, ◌*◌, ◌/◌, [], None, get_or, length, map, vec_items, sym, ap, ◌∙◌, arith}
+use Rattle.std.proofs.Common.{◌≡◌, ◌*◌, ◌/◌, [], None, Option, Err, get_or, length, map, vec_items, sym, ap, ◌∙◌, arith}
 use Rattle.std.proofs.lemmas.Result.{err_from_is_err_and}
+use Rattle.library_cases.specs.declared.read_error.ReadError.{ReadError}
+use Rattle.library_cases.specs.declared.read_error.ReadError.TheVariants.{BadLine, NoMemory}
+use Rattle.library_cases.specs.Reading.{Reads}
 use Rattle.library_cases.specs.Handed.{named, handed}
 use Rattle.library_cases.specs.Words.{texts}
 use Rattle.library_cases.specs.Commands.{strings_in}
 use Rattle.library_cases.proofs.Pairs.{string_in_pair, strings_in_pairs, by_pairs, odd_none, at_pair, all_read}
-use Rattle.library_cases.proofs.ReadErrors.{part_bad}
 use Rattle.library_cases.proofs.reading.read_strings.Goals as goal
+
+-- where a part is read badly, so is the whole
+part_bad : {X Y X' Y' : Type 0} (f : X → Y) (g : X' → Y') (e : ReadError) (part : Option Y) (whole : Option Y') → (part ≡ None → whole ≡ None)
+    → Reads f (Err e) part → Reads g (Err e) whole
+part_bad f g BadLine part whole so none = sym (so (sym none))
+part_bad f g (NoMemory m) part whole so none = tt
 
 pub returns-in_default : goal.returns-in_default
 returns-in_default c = sym (odd_none c.args.words.now (omega arith))

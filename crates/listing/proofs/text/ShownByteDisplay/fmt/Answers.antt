@@ -4,18 +4,6 @@ use Rattle.std.proofs.lemmas.Fmt.{hex_byte}
 use Rattle.listing.specs.Listing.{shown_byte}
 use Rattle.listing.proofs.text.ShownByteDisplay.fmt.Goals as goal
 
-pub returns-then-byte-end_of_line-clause-writes : goal.returns-then-byte-end_of_line-clause-writes
-unfolding shown_byte
-returns-then-byte-end_of_line-clause-writes g c = search rules
-
-pub returns-then-byte-creation_mark-clause-writes : goal.returns-then-byte-creation_mark-clause-writes
-unfolding shown_byte
-returns-then-byte-creation_mark-clause-writes g c = search rules
-
-pub returns-in-Some-clause-writes : goal.returns-in-Some-clause-writes
-unfolding shown_byte
-returns-in-Some-clause-writes g c = search rules
-
 pub returns-in-Some-glyph-clause-writes : goal.returns-in-Some-glyph-clause-writes
 unfolding shown_byte
 returns-in-Some-glyph-clause-writes g c =
