@@ -4,3 +4,4 @@ pub mod Spaces
 pub mod Storing
 pub mod Deleting
 pub mod Running
+pub mod Stepping

@@ -1,5 +1,6 @@
 pub mod Meaning
 pub mod Views
+pub mod Iterators
 pub mod Name
 pub mod Keeping
 pub mod Locked

@@ -2,12 +2,14 @@
 
 #![tactic(auto)]
 
+mod iterators;
 mod keeper;
 mod lending;
 mod lent;
 mod lock;
 mod lookup;
 mod program_name;
+mod program_view;
 mod reader;
 mod request;
 mod space;
@@ -15,11 +17,13 @@ mod string_view;
 mod strings;
 mod using;
 
+pub use iterators::{Programs, Strings, each_program, each_string};
 pub use keeper::Keeper;
 pub use lending::Lends;
 pub use lock::Lock;
 pub use lookup::find_program;
 pub use program_name::ProgramName;
+pub use program_view::ProgramView;
 pub use reader::Reader;
 pub use request::{Request, carry_out, carry_out_all};
 pub use space::Space;

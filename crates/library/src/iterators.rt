@@ -1,0 +1,24 @@
+// The strings of a source, and the programs of a library, one after another.
+ghost use Rattle.std.specs.Prelude.{◌≡◌, length};
+
+mod stepping;
+
+use crate::reader::Reader;
+use crate::strings::Source;
+pub use stepping::{each_program, each_string};
+
+#[derive(Drop)]
+pub struct Strings<'a, S: Source> {
+    source: &'a S,
+    next: usize,
+    end: usize,
+    ghost counted: { end ≡ length (S.Source.strings source.now) },
+}
+
+#[derive(Drop)]
+pub struct Programs<'a, R: Reader> {
+    library: &'a R,
+    next: usize,
+    end: usize,
+    ghost counted: { end ≡ length (R.Reader.meaning library.now).programs },
+}

@@ -1,0 +1,27 @@
+// A program of a library, where it lies.
+ghost use Rattle.library.specs.Meaning.{program_at, strings_of};
+
+use crate::reader::Reader;
+use crate::string_view::StringView;
+use crate::strings::Source;
+
+// Its name, and the library that has its strings, at that place.
+#[derive(Clone, Copy)]
+pub struct ProgramView<'a, R> {
+    pub name: &'a [u8],
+    pub library: &'a R,
+    pub program: usize,
+}
+
+// Its strings are handed over to be stored where they lie; past the last program there are none.
+impl<'a, R: Reader> Source for ProgramView<'a, R> {
+    ghost strings = { λ view. strings_of (program_at (R.Reader.meaning view.library.now).programs view.program) };
+
+    fn count(&self) -> usize {
+        self.library.strings(self.program).unwrap_or(0)
+    }
+
+    fn string(&self, string: usize) -> Option<StringView<'_>> {
+        self.library.string(self.program, string)
+    }
+}
