@@ -1,5 +1,3 @@
 pub mod Lines
-pub mod Shapes
+pub mod Pairs
 pub mod Naming
-pub mod HandedAt
-pub mod Splitting

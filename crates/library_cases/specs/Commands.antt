@@ -1,6 +1,6 @@
 -- What the lines of a script ask for.
 use Rattle.std.specs.Prelude.{ℕ, cond, List, [], ◌∷◌, length, Some, None, vec_items, codes, decimal, Option}
-use Rattle.std.specs.Option.{option_map}
+use Rattle.std.specs.Option.{option_map, option_and_then}
 use Rattle.std.specs.Str.{bytes_eq}
 use Rattle.library.specs.Meaning.{NamedString, Program}
 use Rattle.library_cases.specs.declared.command.Command.{Command}
@@ -97,14 +97,10 @@ by_verb verb.Put ws = put_in ws
 by_verb verb.Delete ws = option_map (λ (n : List ℕ). ask (delete n)) (name_in ws)
 by_verb verb.Find ws = option_map (λ (n : List ℕ). ask (find n)) (name_in ws)
 
-abbrev pub by_verb_if : Option Verb → List (List ℕ) → Option Line
-by_verb_if (Some v) ws = by_verb v ws
-by_verb_if None ws = None
-
 -- what a line asks for; None where it is no command
 abbrev pub in_words : List (List ℕ) → Option Line
 in_words [] = None
-in_words (w ∷ ws) = by_verb_if (verb_of w) ws
+in_words (w ∷ ws) = option_and_then (λ (v : Verb). by_verb v ws) (verb_of w)
 
 abbrev pub command_in : List ℕ → Option Line
 command_in line = in_words (words line)

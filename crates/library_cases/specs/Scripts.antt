@@ -1,19 +1,17 @@
 -- A script: what each line leaves, and its answer.
 use Rattle.std.specs.Prelude.{ℕ, Bool, false, cond, List, [], ◌∷◌, Some, None, codes, Option, ◌==◌}
 use Rattle.library.specs.Meaning.{Library}
-use Rattle.library.specs.Locked.{no_space, locked_library}
-use Rattle.shelf.specs.Shelved.{meaning_of, empty_library}
+use Rattle.library.specs.Locked.{locked_library}
+use Rattle.shelf.specs.Shelved.{meaning_of, programs_of, empty_library}
 use Rattle.library_cases.specs.declared.kept.Kept.{Kept}
+use Rattle.library_cases.specs.declared.kept.Kept.TheVariants.{Open, Locked}
 use Rattle.library_cases.specs.Commands.{Line, shelf, lock, ask, command_in}
 use Rattle.library_cases.specs.Answers.{answered, left_by}
 
--- a library that is behind a lock, or is not
-abbrev pub behind : Bool → Library → Library
-behind locked l = record { programs = l.programs; space = cond locked no_space l.space; locked = locked }
-
 -- what the library of a script means
 abbrev pub kept_meaning : Kept → Library
-kept_meaning k = behind k.locked (meaning_of k.shelf)
+kept_meaning (Open s) = meaning_of s
+kept_meaning (Locked s) = locked_library (programs_of s.inner)
 
 -- A command: the library that it leaves, and its answer.
 

@@ -1,6 +1,8 @@
 -- Answers in words. Assumes nothing.
 use Rattle.std.specs.Prelude.{ℕ, Bool, cond, List, [], ◌∷◌, ◌++◌, Some, None, codes, decimal, Option}
 use Rattle.std.specs.List.{flat_map}
+use Rattle.refusal.specs.Numbers.{number_of}
+use Rattle.refusal.specs.declared.Refusal.{Refusal}
 use Rattle.library.specs.Meaning.{Library, Program, NamedString}
 use Rattle.library.specs.declared.space.Space.{Space}
 use Rattle.hex_text.specs.Hex.{hexed}
@@ -27,9 +29,9 @@ unfoldable pub shown_library : Library → List ℕ
 shown_library l = shown_lock l.locked ++ shown_space l.space ++ flat_map shown_program l.programs
 
 -- whether it was refused, and by which number
-abbrev pub shown_outcome : Option ℕ → List ℕ
+abbrev pub shown_outcome : Option Refusal → List ℕ
 shown_outcome None = codes "ok"
-shown_outcome (Some number) = codes "refused " ++ decimal number
+shown_outcome (Some refusal) = codes "refused " ++ decimal (number_of refusal)
 
 -- where a program stands
 abbrev pub shown_place : Option ℕ → List ℕ

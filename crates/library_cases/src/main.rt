@@ -14,6 +14,7 @@
 mod answers;
 mod command;
 mod kept;
+mod read_error;
 mod reading;
 mod script;
 mod showing;
@@ -28,7 +29,7 @@ fn main(rt: HostRuntime) -> anyhow::Result<()> {
     for line in rt.lines(rt.alloc()) {
         let line = line?;
         let mut answer = String::new(rt.alloc());
-        push_line(rt.alloc(), &mut kept, line.as_str(), &mut answer)?;
+        kept = push_line(rt.alloc(), kept, line.as_str(), &mut answer)?;
         println!(rt; "{answer}")?;
     }
     Ok(())

@@ -1,19 +1,23 @@
 // A command from the words of a line.
 ghost use Rattle.std.specs.Prelude.{◌≡◌, IfOk, vec_items, decimal};
-ghost use Rattle.std.specs.Option.{option_map};
+ghost use Rattle.std.specs.Option.{ok_or};
 ghost use Rattle.std.specs.Str.{bytes_eq};
 ghost use Rattle.library_cases.specs.Handed.{named, handed};
 ghost use Rattle.library_cases.specs.Words.{texts, bytes_of};
-ghost use Rattle.library_cases.specs.Commands.{meant, verb_of as verb_of_word, alone as if_alone, name_in, string_of, strings_in, put_in, by_verb, command_in};
+ghost use Rattle.library_cases.specs.Reading.{Reads};
+ghost use Rattle.library_cases.specs.Commands.{meant, verb_of, string_of, strings_in, put_in, by_verb, command_in};
+ghost use Rattle.library_cases.specs.declared.read_error.ReadError.TheVariants.{BadLine};
 
 use crate::command::{Command, Task};
+use crate::read_error::ReadError;
 use crate::strings::{Strings, Text};
 use crate::words::{read_bytes, split_words};
 use library::Source;
 use std::alloc::{AllocError, Global};
+use std::str::FromStr;
 
 // The first word of a line.
-#[derive(Clone, Copy)]
+#[derive(Clone, Copy, PartialEq, Eq, Debug)]
 pub enum Verb {
     Shelf,
     Put,
@@ -23,72 +27,46 @@ pub enum Verb {
     Show,
 }
 
-fn verb_of(word: &str) -> Option<Verb>
-    ensures { result ≡ verb_of_word word.now }
-{
-    match word {
-        "shelf" => Some(Verb::Shelf),
-        "put" => Some(Verb::Put),
-        "delete" => Some(Verb::Delete),
-        "lock" => Some(Verb::Lock),
-        "find" => Some(Verb::Find),
-        "lib" => Some(Verb::Show),
-        _ => None,
-    }
-}
+impl FromStr for Verb {
+    type Err = ReadError;
 
-// A command that has no words after its verb.
-fn alone(words: &[&str], command: Command) -> Option<Command>
-    ensures { option_map meant result ≡ if_alone (texts words.now) (meant command) }
-{
-    if words.is_empty() {
-        Some(command)
-    } else {
-        None
-    }
-}
+    ghost from_str_gives = { λ word r. r ≡ ok_or (verb_of word) BadLine };
 
-// The name that is the only word.
-fn read_name(heap: Global, words: &[&str]) -> Result<Option<Vec<u8>>, AllocError>
-    ensures { IfOk result (λ o. option_map vec_items o ≡ name_in (texts words.now)) }
-{
-    match words {
-        [name] => read_bytes(heap, name),
-        _ => Ok(None),
+    fn from_str(word: &str) -> Result<Verb, ReadError> {
+        match word {
+            "shelf" => Ok(Verb::Shelf),
+            "put" => Ok(Verb::Put),
+            "delete" => Ok(Verb::Delete),
+            "lock" => Ok(Verb::Lock),
+            "find" => Ok(Verb::Find),
+            "lib" => Ok(Verb::Show),
+            _ => Err(ReadError::BadLine),
+        }
     }
 }
 
 // The string of this name and body.
-fn read_text(heap: Global, name: &str, body: &str) -> Result<Option<Text>, AllocError>
-    ensures { IfOk result (λ o. option_map named o ≡ string_of (bytes_of name.now) (bytes_of body.now)) }
+fn read_text(heap: Global, name: &str, body: &str) -> Result<Text, ReadError>
+    ensures { Reads named result (string_of (bytes_of name.now) (bytes_of body.now)) }
 {
-    let Some(name) = read_bytes(heap, name)? else {
-        return Ok(None);
-    };
-    match read_bytes(heap, body)? {
-        Some(body) => Ok(Some(Text { name, body })),
-        None => Ok(None),
-    }
+    Ok(Text {
+        name: read_bytes(heap, name)?,
+        body: read_bytes(heap, body)?,
+    })
 }
 
 // The strings that the words are, two and two.
-fn read_strings(heap: Global, words: &[&str]) -> Result<Option<Strings>, AllocError>
-    ensures { IfOk result (λ o. option_map handed o ≡ strings_in (texts words.now)) }
+fn read_strings(heap: Global, words: &[&str]) -> Result<Strings, ReadError>
+    ensures { Reads handed result (strings_in (texts words.now)) }
 {
-    let mut texts = Vec::new(heap);
-    let mut left = words;
-    while let [name, body, rest @ ..] = left {
-        let Some(text) = read_text(heap, name, body)? else {
-            return Ok(None);
-        };
-        texts.push(text)?;
-        left = rest;
+    let (pairs, []) = words.as_chunks::<2>() else {
+        return Err(ReadError::BadLine);
+    };
+    let mut texts = Vec::with_capacity(heap, pairs.len())?;
+    for [name, body] in pairs {
+        texts.push(read_text(heap, name, body)?)?;
     }
-    if left.is_empty() {
-        Ok(Some(Strings { texts }))
-    } else {
-        Ok(None)
-    }
+    Ok(Strings { texts })
 }
 
 // Is the word this number in decimal?
@@ -100,53 +78,41 @@ fn is_number(heap: Global, word: &str, n: usize) -> Result<bool, AllocError>
 }
 
 // A program: its name, how many strings it has, and these.
-fn read_put(heap: Global, words: &[&str]) -> Result<Option<Command>, AllocError>
-    ensures { IfOk result (λ o. option_map meant o ≡ put_in (texts words.now)) }
+fn read_put(heap: Global, words: &[&str]) -> Result<Command, ReadError>
+    ensures { Reads meant result (put_in (texts words.now)) }
 {
     let [name, count, rest @ ..] = words else {
-        return Ok(None);
+        return Err(ReadError::BadLine);
     };
-    let Some(strings) = read_strings(heap, rest)? else {
-        return Ok(None);
-    };
+    let strings = read_strings(heap, rest)?;
     if !is_number(heap, count, strings.count())? {
-        return Ok(None);
+        return Err(ReadError::BadLine);
     }
-    match read_bytes(heap, name)? {
-        Some(name) => Ok(Some(Command::Ask(Task::Put(name, strings)))),
-        None => Ok(None),
-    }
+    let name = read_bytes(heap, name)?;
+    Ok(Command::Ask(Task::Put(name, strings)))
 }
 
-fn read_command(heap: Global, verb: Verb, words: &[&str]) -> Result<Option<Command>, AllocError>
-    ensures { IfOk result (λ o. option_map meant o ≡ by_verb verb (texts words.now)) }
+fn read_command(heap: Global, verb: Verb, words: &[&str]) -> Result<Command, ReadError>
+    ensures { Reads meant result (by_verb verb (texts words.now)) }
 {
-    match verb {
-        Verb::Shelf => Ok(alone(words, Command::Shelf)),
-        Verb::Lock => Ok(alone(words, Command::Lock)),
-        Verb::Show => Ok(alone(words, Command::Ask(Task::Show))),
-        Verb::Put => read_put(heap, words),
-        Verb::Delete => match read_name(heap, words)? {
-            Some(name) => Ok(Some(Command::Ask(Task::Delete(name)))),
-            None => Ok(None),
-        },
-        Verb::Find => match read_name(heap, words)? {
-            Some(name) => Ok(Some(Command::Ask(Task::Find(name)))),
-            None => Ok(None),
-        },
+    match (verb, words) {
+        (Verb::Shelf, []) => Ok(Command::Shelf),
+        (Verb::Lock, []) => Ok(Command::Lock),
+        (Verb::Show, []) => Ok(Command::Ask(Task::Show)),
+        (Verb::Put, words) => read_put(heap, words),
+        (Verb::Delete, [name]) => Ok(Command::Ask(Task::Delete(read_bytes(heap, name)?))),
+        (Verb::Find, [name]) => Ok(Command::Ask(Task::Find(read_bytes(heap, name)?))),
+        _ => Err(ReadError::BadLine),
     }
 }
 
-// What a line asks for; `None` where it is no command.
-pub fn parse(heap: Global, line: &str) -> Result<Option<Command>, AllocError>
-    ensures { IfOk result (λ o. option_map meant o ≡ command_in line.now) }
+// What a line asks for.
+pub fn parse(heap: Global, line: &str) -> Result<Command, ReadError>
+    ensures { Reads meant result (command_in line.now) }
 {
     let words = split_words(heap, line)?;
-    let [verb, rest @ ..] = words.as_slice() else {
-        return Ok(None);
-    };
-    match verb_of(verb) {
-        Some(verb) => read_command(heap, verb, rest),
-        None => Ok(None),
+    match words.as_slice() {
+        [verb, rest @ ..] => read_command(heap, verb.parse()?, rest),
+        [] => Err(ReadError::BadLine),
     }
 }

@@ -1,124 +1,120 @@
 // Answers in words.
-ghost use Rattle.std.specs.Prelude.{◌≡◌};
+ghost use Rattle.std.specs.Prelude.{[], Some};
+ghost use Rattle.std.specs.Option.{option_map_or};
 ghost use Rattle.std.specs.Result.{result_err};
-ghost use Rattle.std.specs.List.{flat_map};
-ghost use Rattle.library.specs.Meaning.{program_at, string_at, strings_of};
-ghost use Rattle.listing.specs.Adds.{Adds};
-ghost use Rattle.listing.specs.Listing.{shown_if};
-ghost use Rattle.library_cases.specs.Showing.{shown_bytes, shown_string, shown_program, shown_lock, shown_space, shown_library, shown_outcome, shown_place};
+ghost use Rattle.library.specs.Meaning.{program_at};
+ghost use Rattle.library.specs.Views.{string_viewed};
+ghost use Rattle.library_cases.specs.Showing.{shown_bytes, shown_string, shown_program, shown_library, shown_outcome, shown_place};
 
-use hex_text::push_hex;
-use library::{Reader, Space};
-use std::alloc::AllocError;
+use hex_text::Hex;
+use library::{Reader, Space, StringView};
+use refusal::Refusal;
+use std::fmt;
 
-pub fn push_outcome(out: &mut String, done: Result<(), u8>) -> Result<(), AllocError>
-    ensures { Adds out.old result out.new (shown_outcome (result_err done)) }
-{
-    match done {
-        Ok(()) => out.push_str("ok"),
-        Err(number) => write!(out, "refused {number}"),
+// Whether it was refused, and by which number.
+#[derive(Clone, Copy)]
+pub struct ShownOutcome(pub Result<(), Refusal>);
+
+impl fmt::Display for ShownOutcome {
+    ghost output = { λ s. Some (shown_outcome (result_err s.0)) };
+
+    fn fmt<W: fmt::Write>(&self, f: &mut fmt::Formatter<W>) -> fmt::Result {
+        match self.0 {
+            Ok(()) => write!(f, "ok"),
+            Err(refusal) => write!(f, "refused {}", refusal.number()),
+        }
     }
 }
 
-pub fn push_place(out: &mut String, place: Option<usize>) -> Result<(), AllocError>
-    ensures { Adds out.old result out.new (shown_place place) }
-{
-    match place {
-        Some(place) => write!(out, "at {place}"),
-        None => out.push_str("absent"),
+// Where a program stands.
+#[derive(Clone, Copy)]
+pub struct ShownPlace(pub Option<usize>);
+
+impl fmt::Display for ShownPlace {
+    ghost output = { λ s. Some (shown_place s.0) };
+
+    fn fmt<W: fmt::Write>(&self, f: &mut fmt::Formatter<W>) -> fmt::Result {
+        match self.0 {
+            Some(place) => write!(f, "at {place}"),
+            None => write!(f, "absent"),
+        }
     }
 }
 
 // Bytes in hex, - for none.
-fn push_bytes(out: &mut String, bytes: &[u8]) -> Result<(), AllocError>
-    ensures { Adds out.old result out.new (shown_bytes bytes.now) }
-{
-    if bytes.is_empty() {
-        return out.push_str("-");
-    }
-    push_hex(out, bytes)
-}
+#[derive(Clone, Copy)]
+struct ShownBytes<'a>(&'a [u8]);
 
-// A string of this name and body.
-fn push_named(out: &mut String, name: &[u8], body: &[u8]) -> Result<(), AllocError>
-    ensures { Adds out.old result out.new (shown_string (record { name = name.now; body = body.now })) }
-{
-    out.push_str(" ")?;
-    push_bytes(out, name)?;
-    out.push_str("=")?;
-    push_bytes(out, body)
-}
+impl fmt::Display for ShownBytes<'_> {
+    ghost output = { λ s. Some (shown_bytes s.0.now) };
 
-// String `s` of program `p`; past the end, nothing.
-fn push_string<R: Reader>(
-    out: &mut String,
-    library: &R,
-    p: usize,
-    s: usize,
-) -> Result<(), AllocError>
-    ensures { Adds out.old result out.new (shown_if shown_string (string_at (R.Reader.meaning library.now).programs p s)) }
-{
-    match (library.string_name(p, s), library.string_body(p, s)) {
-        (Some(name), Some(body)) => push_named(out, name, body),
-        _ => Ok(()),
+    fn fmt<W: fmt::Write>(&self, f: &mut fmt::Formatter<W>) -> fmt::Result {
+        if self.0.is_empty() {
+            write!(f, "-")
+        } else {
+            write!(f, "{}", Hex(self.0))
+        }
     }
 }
 
-// The strings of program `p`; past the end, nothing.
-fn push_strings<R: Reader>(out: &mut String, library: &R, p: usize) -> Result<(), AllocError>
-    ensures { Adds out.old result out.new (flat_map shown_string (strings_of (program_at (R.Reader.meaning library.now).programs p))) }
-{
-    for s in 0..library.strings(p).unwrap_or(0) {
-        push_string(out, library, p, s)?;
+// A string: its name and its body.
+#[derive(Clone, Copy)]
+struct ShownString<'a>(StringView<'a>);
+
+impl fmt::Display for ShownString<'_> {
+    ghost output = { λ s. Some (shown_string (string_viewed s.0)) };
+
+    #[tactic(auto, unfolding(crate::specs::Showing::shown_string))]
+    fn fmt<W: fmt::Write>(&self, f: &mut fmt::Formatter<W>) -> fmt::Result {
+        let StringView { name, body } = self.0;
+        write!(f, " {}={}", ShownBytes(name), ShownBytes(body))
     }
-    Ok(())
 }
 
-// Program `p`; past the end, nothing.
-fn push_program<R: Reader>(out: &mut String, library: &R, p: usize) -> Result<(), AllocError>
-    ensures { Adds out.old result out.new (shown_if shown_program (program_at (R.Reader.meaning library.now).programs p)) }
-{
-    let Some(name) = library.name(p) else {
-        return Ok(());
-    };
-    out.push_str(" ")?;
-    push_bytes(out, name)?;
-    out.push_str(":")?;
-    push_strings(out, library, p)
+// A program with its strings; past the last program, nothing.
+#[derive(Clone, Copy)]
+struct ShownProgram<'a, R> {
+    library: &'a R,
+    program: usize,
 }
 
-// The programs in order.
-fn push_programs<R: Reader>(out: &mut String, library: &R) -> Result<(), AllocError>
-    ensures { Adds out.old result out.new (flat_map shown_program (R.Reader.meaning library.now).programs) }
-{
-    for p in 0..library.programs() {
-        push_program(out, library, p)?;
+impl<R: Reader> fmt::Display for ShownProgram<'_, R> {
+    ghost output = { λ s. Some (option_map_or shown_program (program_at (R.Reader.meaning s.library.now).programs s.program) []) };
+
+    fn fmt<W: fmt::Write>(&self, f: &mut fmt::Formatter<W>) -> fmt::Result {
+        let ShownProgram { library, program } = *self;
+        let (Some(name), Some(count)) = (library.name(program), library.strings(program)) else {
+            return Ok(());
+        };
+        write!(f, " {}:", ShownBytes(name))?;
+        for string in 0..count {
+            if let Some(string) = library.string(program, string) {
+                write!(f, "{}", ShownString(string))?;
+            }
+        }
+        Ok(())
     }
-    Ok(())
 }
 
-fn push_lock(out: &mut String, locked: bool) -> Result<(), AllocError>
-    ensures { Adds out.old result out.new (shown_lock locked) }
-{
-    out.push_str(if locked { "locked yes" } else { "locked no" })
-}
+// The whole library: whether it is locked, the space left, and the programs in order.
+#[derive(Clone, Copy)]
+pub struct ShownLibrary<'a, R>(pub &'a R);
 
-fn push_space(out: &mut String, space: Space) -> Result<(), AllocError>
-    ensures { Adds out.old result out.new (shown_space space) }
-{
-    let Space {
-        programs,
-        strings,
-        bytes,
-    } = space;
-    write!(out, " left {programs} {strings} {bytes}")
-}
+impl<R: Reader> fmt::Display for ShownLibrary<'_, R> {
+    ghost output = { λ s. Some (shown_library (R.Reader.meaning s.0.now)) };
 
-// The whole library.
-pub fn push_library<R: Reader>(out: &mut String, library: &R) -> Result<(), AllocError>
-    ensures { Adds out.old result out.new (shown_library (R.Reader.meaning library.now)) }
-{
-    push_lock(out, library.is_locked())?;
-    push_space(out, library.space())?;
-    push_programs(out, library)
+    fn fmt<W: fmt::Write>(&self, f: &mut fmt::Formatter<W>) -> fmt::Result {
+        let library = self.0;
+        let locked = if library.is_locked() { "yes" } else { "no" };
+        let Space {
+            programs,
+            strings,
+            bytes,
+        } = library.space();
+        write!(f, "locked {locked} left {programs} {strings} {bytes}")?;
+        for program in 0..library.programs() {
+            write!(f, "{}", ShownProgram { library, program })?;
+        }
+        Ok(())
+    }
 }

@@ -1,12 +1,25 @@
 // The strings of a program that a script stores.
-ghost use Rattle.library_cases.specs.Handed.{handed};
+ghost use Rattle.std.specs.Prelude.{◌≡◌};
+ghost use Rattle.library.specs.Views.{string_viewed};
+ghost use Rattle.library_cases.specs.Handed.{named, handed};
 
-use library::Source;
+use library::{Source, StringView};
 
 #[derive(Drop)]
 pub struct Text {
     pub name: Vec<u8>,
     pub body: Vec<u8>,
+}
+
+impl Text {
+    fn view(&self) -> StringView<'_>
+        ensures { string_viewed result ≡ named self.now }
+    {
+        StringView {
+            name: &self.name,
+            body: &self.body,
+        }
+    }
 }
 
 #[derive(Drop)]
@@ -21,13 +34,7 @@ impl Source for Strings {
         self.texts.len()
     }
 
-    fn name(&self, string: usize) -> Option<&[u8]> {
-        let text = self.texts.get(string)?;
-        Some(text.name.as_slice())
-    }
-
-    fn body(&self, string: usize) -> Option<&[u8]> {
-        let text = self.texts.get(string)?;
-        Some(text.body.as_slice())
+    fn string(&self, string: usize) -> Option<StringView<'_>> {
+        self.texts.get(string).map(Text::view)
     }
 }

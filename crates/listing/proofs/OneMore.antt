@@ -2,16 +2,13 @@
 use Rattle.std.proofs.Common.{◌≡◌, ℕ, zero, suc, ◌+◌, List, [], ◌∷◌, ◌++◌, take, sym, refl, ap, ◌∙◌, append_assoc, add-one}
 use Rattle.std.proofs.lemmas.List.{append-nil}
 use Rattle.std.specs.List.{flat_map, slice_get}
-use Rattle.listing.specs.Listing.{shown_if}
+use Rattle.std.specs.Option.{option_map_or}
 
-one_more : {X : Type 0} (f : X → List ℕ) (xs : List X) (i : ℕ) → flat_map f (take i xs) ++ shown_if f (slice_get xs i) ≡ flat_map f (take (suc i) xs)
-one_more f [] zero = refl
-one_more f [] (suc i) = refl
-one_more f (x ∷ xs) zero = sym (append-nil (f x))
-one_more f (x ∷ xs) (suc i) = append_assoc (f x) (flat_map f (take i xs)) (shown_if f (slice_get xs i)) ∙ ap (λ l. f x ++ l) (one_more f xs i)
-
--- the same after the text `before`
-pub one_more_after : {X : Type 0} (f : X → List ℕ) (before : List ℕ) (xs : List X) (i : ℕ) → (before ++ flat_map f (take i xs)) ++ shown_if f (slice_get xs i) ≡ before ++ flat_map f (take (i + 1) xs)
-one_more_after f before xs i =
-    append_assoc before (flat_map f (take i xs)) (shown_if f (slice_get xs i))
-    ∙ ap (λ l. before ++ l) (one_more f xs i ∙ ap (λ n. flat_map f (take n xs)) (sym (add-one i)))
+pub one_more : {X : Type 0} (f : X → List ℕ) (xs : List X) (i : ℕ) → flat_map f (take i xs) ++ option_map_or f (slice_get xs i) [] ≡ flat_map f (take (i + 1) xs)
+one_more {X = X} f xs i = go xs i ∙ ap (λ n. flat_map f (take n xs)) (sym (add-one i))
+  where
+    go : (xs : List X) (i : ℕ) → flat_map f (take i xs) ++ option_map_or f (slice_get xs i) [] ≡ flat_map f (take (suc i) xs)
+    go [] zero = refl
+    go [] (suc i) = refl
+    go (x ∷ xs) zero = sym (append-nil (f x))
+    go (x ∷ xs) (suc i) = append_assoc (f x) (flat_map f (take i xs)) (option_map_or f (slice_get xs i) []) ∙ ap (λ l. f x ++ l) (go xs i)

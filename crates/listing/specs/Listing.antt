@@ -50,16 +50,6 @@ shown_program code glyph p =
     ++ codes ", strings: " ++ decimal (length p.strings) ++ codes "\n"
     ++ flat_map (shown_string code glyph) p.strings
 
--- the strings of a program; none past the last program
-abbrev pub strings_of : Option Program → List NamedString
-strings_of None = []
-strings_of (Some p) = p.strings
-
--- one of several, or nothing past the last one
-abbrev pub shown_if : {X : Type 0} → (X → List ℕ) → Option X → List ℕ
-shown_if f None = []
-shown_if f (Some x) = f x
-
 -- The library.
 
 -- how many strings the programs have together

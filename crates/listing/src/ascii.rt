@@ -5,8 +5,6 @@ ghost use Rattle.listing.specs.Ascii.{ascii_glyph, ascii_printable};
 use crate::glyphs::Glyphs;
 use code::Ascii;
 
-const TITLE: &str = "ASCII";
-
 impl Glyphs for Ascii {
     ghost glyph = { ascii_glyph };
 
@@ -23,6 +21,6 @@ impl Glyphs for Ascii {
     }
 
     fn title(&self) -> &'static str {
-        TITLE
+        "ASCII"
     }
 }

@@ -5,8 +5,6 @@ ghost use Rattle.listing.specs.Ebcdic.{ebcdic_glyph, ebcdic_printable, special a
 use crate::glyphs::Glyphs;
 use code::Ebcdic;
 
-const TITLE: &str = "EBCDIC";
-
 impl Glyphs for Ebcdic {
     ghost glyph = { ebcdic_glyph };
 
@@ -28,7 +26,7 @@ impl Glyphs for Ebcdic {
     }
 
     fn title(&self) -> &'static str {
-        TITLE
+        "EBCDIC"
     }
 }
 

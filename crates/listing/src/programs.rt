@@ -1,93 +1,88 @@
 // Strings and programs as text.
+ghost use Rattle.std.specs.Prelude.{[], Some};
+ghost use Rattle.std.specs.Option.{option_map_or};
 ghost use Rattle.std.specs.List.{flat_map};
-ghost use Rattle.library.specs.Meaning.{program_at, string_at};
-ghost use Rattle.listing.specs.Adds.{Adds};
-ghost use Rattle.listing.specs.Listing.{shown_string, shown_program, shown_if, strings_of};
+ghost use Rattle.library.specs.Meaning.{program_at};
+ghost use Rattle.library.specs.Views.{string_viewed};
+ghost use Rattle.listing.specs.Listing.{shown_string, shown_program};
 
 use crate::glyphs::Glyphs;
-use crate::text::{push_number, push_text};
-use library::Reader;
-use std::alloc::AllocError;
+use crate::text::ShownText;
+use library::{Reader, StringView};
+use std::fmt;
 
-// A string of this name and body.
-fn push_named<C: Glyphs>(
-    out: &mut String,
-    code: &C,
-    name: &[u8],
-    body: &[u8],
-) -> Result<(), AllocError>
-    ensures { Adds out.old result out.new (shown_string C.Code.meaning C.Glyphs.glyph (record { name = name.now; body = body.now })) }
-{
-    out.push_str("  ")?;
-    push_text(out, code, name)?;
-    out.push_str(", ")?;
-    push_number(out, body.len())?;
-    out.push_str(" bytes: ")?;
-    push_text(out, code, body)?;
-    out.push_str("\n")
+// A string: its name, the length of its body, and its body.
+#[derive(Clone, Copy)]
+struct ShownString<'a, C> {
+    code: &'a C,
+    string: StringView<'a>,
 }
 
-// String `s` of program `p`; past the end, nothing.
-fn push_string<C: Glyphs, R: Reader>(
-    out: &mut String,
-    code: &C,
-    library: &R,
-    p: usize,
-    s: usize,
-) -> Result<(), AllocError>
-    ensures { Adds out.old result out.new (shown_if (shown_string C.Code.meaning C.Glyphs.glyph) (string_at (R.Reader.meaning library.now).programs p s)) }
-{
-    match (library.string_name(p, s), library.string_body(p, s)) {
-        (Some(name), Some(body)) => push_named(out, code, name, body),
-        _ => Ok(()),
+impl<C: Glyphs> fmt::Display for ShownString<'_, C> {
+    ghost output = { λ s. Some (shown_string C.Code.meaning C.Glyphs.glyph (string_viewed s.string)) };
+
+    #[tactic(auto, unfolding(crate::specs::Listing::shown_string))]
+    fn fmt<W: fmt::Write>(&self, f: &mut fmt::Formatter<W>) -> fmt::Result {
+        let code = self.code;
+        let StringView { name, body } = self.string;
+        let length = body.len();
+        let name = ShownText { code, text: name };
+        let body = ShownText { code, text: body };
+        writeln!(f, "  {name}, {length} bytes: {body}")
     }
 }
 
-// The strings of program `p`; past the end, nothing.
-fn push_strings<C: Glyphs, R: Reader>(
-    out: &mut String,
-    code: &C,
-    library: &R,
-    p: usize,
-) -> Result<(), AllocError>
-    ensures { Adds out.old result out.new (flat_map (shown_string C.Code.meaning C.Glyphs.glyph) (strings_of (program_at (R.Reader.meaning library.now).programs p))) }
-{
-    for s in 0..library.strings(p).unwrap_or(0) {
-        push_string(out, code, library, p, s)?;
-    }
-    Ok(())
+// A program with its strings; past the last program, nothing.
+#[derive(Clone, Copy)]
+struct ShownProgram<'a, C, R> {
+    code: &'a C,
+    library: &'a R,
+    program: usize,
 }
 
-// Program `p`; past the end, nothing.
-fn push_program<C: Glyphs, R: Reader>(
-    out: &mut String,
-    code: &C,
-    library: &R,
-    p: usize,
-) -> Result<(), AllocError>
-    ensures { Adds out.old result out.new (shown_if (shown_program C.Code.meaning C.Glyphs.glyph) (program_at (R.Reader.meaning library.now).programs p)) }
-{
-    let (Some(name), Some(count)) = (library.name(p), library.strings(p)) else {
-        return Ok(());
-    };
-    out.push_str("program ")?;
-    push_text(out, code, name)?;
-    out.push_str(", strings: ")?;
-    push_number(out, count)?;
-    out.push_str("\n")?;
-    push_strings(out, code, library, p)
+impl<C: Glyphs, R: Reader> fmt::Display for ShownProgram<'_, C, R> {
+    ghost output = { λ s. Some (option_map_or (shown_program C.Code.meaning C.Glyphs.glyph) (program_at (R.Reader.meaning s.library.now).programs s.program) []) };
+
+    fn fmt<W: fmt::Write>(&self, f: &mut fmt::Formatter<W>) -> fmt::Result {
+        let ShownProgram {
+            code,
+            library,
+            program,
+        } = *self;
+        let (Some(name), Some(count)) = (library.name(program), library.strings(program)) else {
+            return Ok(());
+        };
+        let name = ShownText { code, text: name };
+        writeln!(f, "program {name}, strings: {count}")?;
+        for string in 0..count {
+            if let Some(string) = library.string(program, string) {
+                write!(f, "{}", ShownString { code, string })?;
+            }
+        }
+        Ok(())
+    }
 }
 
 // The programs in order.
-pub fn push_programs<C: Glyphs, R: Reader>(
-    out: &mut String,
-    code: &C,
-    library: &R,
-) -> Result<(), AllocError>
-    ensures { Adds out.old result out.new (flat_map (shown_program C.Code.meaning C.Glyphs.glyph) (R.Reader.meaning library.now).programs) }
-{
-    for p in 0..library.programs() {
-        push_program(out, code, library, p)?;
+#[derive(Clone, Copy)]
+pub struct ShownPrograms<'a, C, R> {
+    pub code: &'a C,
+    pub library: &'a R,
+}
+
+impl<C: Glyphs, R: Reader> fmt::Display for ShownPrograms<'_, C, R> {
+    ghost output = { λ s. Some (flat_map (shown_program C.Code.meaning C.Glyphs.glyph) (R.Reader.meaning s.library.now).programs) };
+
+    fn fmt<W: fmt::Write>(&self, f: &mut fmt::Formatter<W>) -> fmt::Result {
+        let ShownPrograms { code, library } = *self;
+        for program in 0..library.programs() {
+            let shown = ShownProgram {
+                code,
+                library,
+                program,
+            };
+            write!(f, "{shown}")?;
+        }
+        Ok(())
     }
-    Ok(())
 }

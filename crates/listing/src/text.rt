@@ -1,68 +1,54 @@
-// Bytes of a code, and numbers, as text.
-ghost use Rattle.std.specs.Prelude.{◌≡◌, ◌<◌, decimal};
-ghost use Rattle.listing.specs.Adds.{Adds};
-ghost use Rattle.listing.specs.Listing.{hex_digit, shown_hex, shown_mark, shown_byte, shown_text};
+// Bytes of a code as text.
+ghost use Rattle.std.specs.Prelude.{Some};
+ghost use Rattle.listing.specs.Listing.{shown_byte, shown_text};
 
 use crate::glyphs::Glyphs;
-use std::alloc::AllocError;
-
-pub fn push_number(out: &mut String, n: usize) -> Result<(), AllocError>
-    ensures { Adds out.old result out.new (decimal n) }
-{
-    write!(out, "{n}")
-}
-
-fn hex_digit(digit: u8) -> char
-    requires { digit < 16 }
-    ensures { result ≡ hex_digit digit }
-{
-    if digit < 10 {
-        (b'0' + digit) as char
-    } else {
-        (b'A' + (digit - 10)) as char
-    }
-}
-
-fn push_hex(out: &mut String, byte: u8) -> Result<(), AllocError>
-    ensures { Adds out.old result out.new (shown_hex byte) }
-{
-    let (high, low) = (byte / 16, byte % 16);
-    out.push_str("{x")?;
-    out.push(hex_digit(high))?;
-    out.push(hex_digit(low))?;
-    out.push_str("}")
-}
-
-fn push_mark(out: &mut String, n: u8) -> Result<(), AllocError>
-    ensures { Adds out.old result out.new (shown_mark n) }
-{
-    write!(out, "{{{n}}}")
-}
+use std::fmt;
 
 // A byte by its glyph; the end of line, the marks and a byte without glyph in braces.
-fn push_byte<C: Glyphs>(out: &mut String, code: &C, byte: u8) -> Result<(), AllocError>
-    ensures { Adds out.old result out.new (shown_byte C.Code.meaning C.Glyphs.glyph byte) }
-{
-    if byte == code.end_of_line() {
-        return out.push_str("{/}");
-    }
-    if byte == code.creation_mark() {
-        return out.push_str("{#}");
-    }
-    if let Some(n) = code.mark_number(byte) {
-        return push_mark(out, n);
-    }
-    match code.glyph(byte) {
-        Some(c) => out.push(c),
-        None => push_hex(out, byte),
+#[derive(Clone, Copy)]
+struct ShownByte<'a, C> {
+    code: &'a C,
+    byte: u8,
+}
+
+impl<C: Glyphs> fmt::Display for ShownByte<'_, C> {
+    ghost output = { λ s. Some (shown_byte C.Code.meaning C.Glyphs.glyph s.byte) };
+
+    #[tactic(auto, unfolding(crate::specs::Listing::shown_byte))]
+    fn fmt<W: fmt::Write>(&self, f: &mut fmt::Formatter<W>) -> fmt::Result {
+        let byte = self.byte;
+        if byte == self.code.end_of_line() {
+            return f.write_str("{/}");
+        }
+        if byte == self.code.creation_mark() {
+            return f.write_str("{#}");
+        }
+        if let Some(mark) = self.code.mark_number(byte) {
+            return write!(f, "{{{mark}}}");
+        }
+        match self.code.glyph(byte) {
+            Some(glyph) => write!(f, "{glyph}"),
+            None => write!(f, "{{x{byte:02X}}}"),
+        }
     }
 }
 
-pub fn push_text<C: Glyphs>(out: &mut String, code: &C, text: &[u8]) -> Result<(), AllocError>
-    ensures { Adds out.old result out.new (shown_text C.Code.meaning C.Glyphs.glyph text.now) }
-{
-    for byte in text {
-        push_byte(out, code, *byte)?;
+// A text, byte by byte.
+#[derive(Clone, Copy)]
+pub struct ShownText<'a, C> {
+    pub code: &'a C,
+    pub text: &'a [u8],
+}
+
+impl<C: Glyphs> fmt::Display for ShownText<'_, C> {
+    ghost output = { λ s. Some (shown_text C.Code.meaning C.Glyphs.glyph s.text.now) };
+
+    fn fmt<W: fmt::Write>(&self, f: &mut fmt::Formatter<W>) -> fmt::Result {
+        let code = self.code;
+        for &byte in self.text {
+            write!(f, "{}", ShownByte { code, byte })?;
+        }
+        Ok(())
     }
-    Ok(())
 }

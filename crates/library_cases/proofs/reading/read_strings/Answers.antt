@@ -1,38 +1,40 @@
-use Rattle.std.proofs.Common.{◌≡◌, ◌-◌, ◌≤◌, List, [], ◌++◌, map, length, take, drop, vec_items, sym, ap, ◌∙◌, rules}
-use Rattle.std.proofs.lemmas.List.{map_push}
-use Rattle.std.specs.Option.{option_map}
-use Rattle.library.specs.Meaning.{NamedString}
-use Rattle.library_cases.specs.declared.strings.Text.{Text}
-use Rattle.library_cases.specs.Handed.{named}
+use Rattle.std.proofs.Common.{◌≡◌, ◌*◌, ◌/◌, [], None, Option, Err, get_or, length, map, vec_items, sym, ap, ◌∙◌, arith}
+use Rattle.std.proofs.lemmas.Result.{err_from_is_err_and}
+use Rattle.library_cases.specs.declared.read_error.ReadError.{ReadError}
+use Rattle.library_cases.specs.declared.read_error.ReadError.TheVariants.{BadLine, NoMemory}
+use Rattle.library_cases.specs.Reading.{Reads}
+use Rattle.library_cases.specs.Handed.{named, handed}
 use Rattle.library_cases.specs.Words.{texts}
 use Rattle.library_cases.specs.Commands.{strings_in}
-use Rattle.library_cases.proofs.Shapes.{none_yet, turn, all_read, odd_word}
+use Rattle.library_cases.proofs.Pairs.{string_in_pair, strings_in_pairs, by_pairs, odd_none, at_pair, all_read}
 use Rattle.library_cases.proofs.reading.read_strings.Goals as goal
 
-pub loop-left-init : goal.loop-left-init
-loop-left-init c =
-    let o = strings_in (texts c.args.words.now) in
-    ap (λ (ts : List Text). option_map (λ (more : List NamedString). map named ts ++ more) o) c.new-texts.ensures.items ∙ none_yet o
+-- where a part is read badly, so is the whole
+part_bad : {X Y X' Y' : Type 0} (f : X → Y) (g : X' → Y') (e : ReadError) (part : Option Y) (whole : Option Y') → (part ≡ None → whole ≡ None)
+    → Reads f (Err e) part → Reads g (Err e) whole
+part_bad f g BadLine part whole so none = sym (so (sym none))
+part_bad f g (NoMemory m) part whole so none = tt
 
-pub loop-left-preserved : goal.loop-left-preserved
-loop-left-preserved c =
-    let left = c.loop-left.left.now in
-    let old = vec_items c.loop-left.texts in
-    let text = c.in-Some.text in
-    let new = c.in_ok-push.ensures.items in
-    let long : 2 ≤ length left = search rules in
-    let more = turn (map named old) left (record { ref_ptr = (0, 0); now = [] }) (named text) long (sym c.in_ok-text.ensures ∙ ap (option_map named) c.in-Some.is) in
-    let o = strings_in (texts (take (length left - 2) (drop 2 left))) in
-    ap (λ (ss : List NamedString). option_map (λ (ts : List NamedString). ss ++ ts) o) (ap (map named) new ∙ map_push named old text) ∙ more ∙ c.loop-left.invariant
+pub returns-in_default : goal.returns-in_default
+returns-in_default c = sym (odd_none c.args.words.now (omega arith))
 
-pub returns-then-is_empty : goal.returns-then-is_empty
-returns-then-is_empty c =
-    let left = c.loop-left.left.now in
-    let none : length left ≡ 0 = search rules in
-    sym (all_read (map named (vec_items c.loop-left.texts)) left none) ∙ c.loop-left.invariant
+pub returns-in_err-read_text : goal.returns-in_err-read_text
+returns-in_err-read_text c =
+    let words = c.args.words.now in
+    let pairs = c.as_chunks.result.0.now in
+    let i = c.loop-name.name-index in
+    let whole : length words ≡ length words / 2 * 2 = omega arith in
+    let read = ap strings_in_pairs c.as_chunks.ensures.front ∙ by_pairs (length words / 2) words whole in
+    let error = err_from_is_err_and c.from_residual-in_err-read_text.result c.from_residual-in_err-read_text.ensures.1 in
+    let pair = string_in_pair (get_or pairs i []) in
+    let bad : pair ≡ None → strings_in (texts words) ≡ None =
+    λ none. sym (at_pair (map named (vec_items c.loop-name.texts)) pairs i None c.loop-name-test.true (sym none) ∙ c.loop-name.invariant ∙ read) in
+    rw (error.1, error.2) (part_bad named handed c.in_err-read_text.field-0.0 pair (strings_in (texts words)) bad c.in_err-read_text.ensures)
 
-pub returns-else-is_empty : goal.returns-else-is_empty
-returns-else-is_empty c =
-    let left = c.loop-left.left.now in
-    let one : length left ≡ 1 = search rules in
-    sym (odd_word (map named (vec_items c.loop-left.texts)) left one) ∙ c.loop-left.invariant
+pub returns : goal.returns
+returns c =
+    let words = c.args.words.now in
+    let pairs = c.as_chunks.result.0.now in
+    let whole : length words ≡ length words / 2 * 2 = omega arith in
+    let read = ap strings_in_pairs c.as_chunks.ensures.front ∙ by_pairs (length words / 2) words whole in
+    all_read (map named (vec_items c.loop-name.texts)) pairs c.loop-name.name-index c.loop-name-test.false ∙ c.loop-name.invariant ∙ read

@@ -1,0 +1,33 @@
+use Rattle.std.proofs.Common.{Some, refl, sym, arith}
+use Rattle.std.proofs.Output.{has_written_append, has_written_of_eq, has_written_to_eq}
+use Rattle.std.proofs.lemmas.List.{append-nil, take_all}
+use Rattle.library.specs.Meaning.{program_at, strings_of}
+use Rattle.listing.specs.Listing.{shown_string}
+use Rattle.listing.proofs.OneMore.{one_more}
+use Rattle.listing.proofs.Reading.{program_is, count_is}
+use Rattle.listing.proofs.programs.ShownProgramDisplay.fmt.Goals as goal
+use Rattle.listing.proofs.programs.ShownProgramDisplay.fmt.Goals.{in-Some+in_ok-write, in_default-string}
+
+pub loop-string-preserved : goal.loop-string-preserved
+loop-string-preserved g c = λ plain.
+    let strings = strings_of (program_at (g.R.Reader.meaning c.args.self.now.library.now).programs c.args.self.now.program) in
+    let so_far = c.loop-string.invariant plain in
+    let more = one_more (shown_string g.C.Code.meaning g.C.Glyphs.glyph) strings c.loop-string.string in
+    elim c.match-string.branch [
+      | in-Some+in_ok-write w ↦
+          has_written_of_eq _ _ _ _ _ (rw (sym w.in-Some.ensures) at more)
+          (has_written_append _ _ _ _ _ _ so_far (rw (sym w.f-is) at w.in_ok-write.ensures.writes so_far.plain refl))
+      | in_default-string w ↦
+          has_written_of_eq _ _ _ _ _ (rw (sym w.in_default-string.ensures, append-nil) at more) (has_written_to_eq _ _ _ _ _ w.f-is so_far)
+    ]
+
+pub returns-clause-writes : goal.returns-clause-writes
+returns-clause-writes g c = λ plain ok.
+    let o = program_at (g.R.Reader.meaning c.args.self.now.library.now).programs c.args.self.now.program in
+    let s = c.loop-string in
+    let n = c.in-Some-Some in
+    let line = c.in_ok-writeln.ensures.writes plain refl in
+    let strings = s.invariant line.plain in
+    let all = take_all c.loop-string.string (strings_of o) (omega (arith, count_is o (Some n.count) n.count n.ensures' refl)) in
+    has_written_of_eq _ _ _ _ _ (program_is g.C.Code.meaning g.C.Glyphs.glyph o n.name.now n.count n.ensures n.ensures')
+    (has_written_append _ _ _ _ _ _ line (rw all at strings))
