@@ -2,7 +2,7 @@
 use Rattle.std.specs.Prelude.{ℕ, ◌+◌, ◌-◌, cond, List, [], ◌∷◌, ◌++◌, Some, None, ◌==◌, refl}
 use Rattle.code.specs.Meaning.{CodeMeaning, CodeLaws, within}
 use Rattle.code.specs.Laws.{laws_of}
-use Rattle.code.specs.Order.{Order, from_to}
+use Rattle.code.specs.Order.{Order, from_to, in_order}
 
 -- Consecutive numbers from 0: the end of line, the special characters in byte order, a to z, A to Z, 0 to 9.
 abbrev pub ascii_rank : ℕ → ℕ
@@ -48,6 +48,12 @@ ascii_order =
     -- a to z, A to Z, 0 to 9
     ++ from_to 0x61 0x7A ++ from_to 0x41 0x5A ++ from_to 0x30 0x39
 
+abbrev pub ascii_ranks : List ℕ
+ascii_ranks = from_to 0 95
+
 -- The bytes that ASCII ranks are these, in this order, and their ranks are 0 to 95.
 abbrev pub AsciiOrder : Type 0
-AsciiOrder = Order ascii ascii_order (from_to 0 95)
+AsciiOrder = Order ascii ascii_order ascii_ranks
+
+pub ascii_ordered : AsciiOrder
+ascii_ordered = in_order ascii ascii_order ascii_ranks refl refl refl

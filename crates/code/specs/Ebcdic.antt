@@ -2,7 +2,7 @@
 use Rattle.std.specs.Prelude.{ℕ, ◌+◌, ◌-◌, Bool, cond, ◌||◌, List, ◌∷◌, Some, None, ◌==◌, nat_le, refl}
 use Rattle.code.specs.Meaning.{CodeMeaning, CodeLaws, within}
 use Rattle.code.specs.Laws.{laws_of}
-use Rattle.code.specs.Order.{Order, from_to}
+use Rattle.code.specs.Order.{Order, from_to, in_order}
 
 -- The byte of a named character, by its Unicode number. The letters stand in three runs, the small ones 0x40 below the capitals.
 abbrev pub ebcdic_named : ℕ → ℕ
@@ -56,3 +56,6 @@ ebcdic_order = 0x15 ∷ from_to 0x40 0xF9
 -- The bytes that EBCDIC ranks are these, in this order, and each is its own rank.
 abbrev pub EbcdicOrder : Type 0
 EbcdicOrder = Order ebcdic ebcdic_order ebcdic_order
+
+pub ebcdic_ordered : EbcdicOrder
+ebcdic_ordered = in_order ebcdic ebcdic_order ebcdic_order refl refl refl

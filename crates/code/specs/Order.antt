@@ -2,6 +2,7 @@
 use Rattle.std.specs.Prelude.{◌≡◌, ℕ, suc, ◌-◌, ◌<◌, Bool, true, false, ◌&&◌, ◌||◌, List, [], ◌∷◌, map, Some, ◌==◌, nat_lt}
 use Rattle.std.specs.List.{range_with_len}
 use Rattle.code.specs.Meaning.{CodeMeaning, rank_of, ranked}
+use Rattle.code.specs.Laws.{every, every_at}
 
 -- the numbers from low to high, with both ends
 abbrev pub from_to : ℕ → ℕ → List ℕ
@@ -22,3 +23,11 @@ pub record Order (m : CodeMeaning) (bytes ranks : List ℕ) : Type 0 where
   pub whole : (b : ℕ) → b < 256 → ranked m b ≡ true → among b bytes ≡ true
   pub ranks_are : map (rank_of m) bytes ≡ map Some ranks
   pub ranks_rise : rising ranks ≡ true
+
+-- the same, by three tests that antt computes
+pub in_order : (m : CodeMeaning) (bytes ranks : List ℕ) → every 256 (ranked m) (λ b. among b bytes) ≡ true → map (rank_of m) bytes ≡ map Some ranks → rising ranks ≡ true → Order m bytes ranks
+in_order m bytes ranks t e r = record {
+  whole = every_at 256 (ranked m) (λ b. among b bytes) t;
+  ranks_are = e;
+  ranks_rise = r;
+}

@@ -1,8 +1,7 @@
 // ASCII.
-ghost use Rattle.std.specs.Prelude.{◌≡◌, length};
-ghost use Rattle.code.specs.Ascii.{ascii, ascii_laws, ascii_order, AsciiOrder};
+ghost use Rattle.code.specs.Ascii.{ascii, ascii_laws, ascii_order, ascii_ranks, ascii_ordered};
 
-use crate::Code;
+use crate::{Code, Ranked};
 
 const NUMBER: u8 = 1;
 
@@ -12,16 +11,6 @@ const CREATION_MARK: u8 = 0xC0;
 
 #[derive(Clone, Copy)]
 pub struct Ascii;
-
-impl Ascii {
-    // How many bytes have a rank: the end of line, the special characters, a to z, A to Z, 0 to 9, in this order.
-    pub fn ranked_bytes(&self) -> u8
-        ensures counted { result ≡ length ascii_order }
-        ensures ordered { AsciiOrder }
-    {
-        96
-    }
-}
 
 impl Code for Ascii {
     ghost meaning = { ascii };
@@ -85,5 +74,18 @@ impl Code for Ascii {
             b'A'..=b'Z' => byte + 32,
             _ => byte,
         }
+    }
+}
+
+// The end of line, the special characters, a to z, A to Z, 0 to 9, in this order.
+impl Ranked for Ascii {
+    ghost order = { ascii_order };
+
+    ghost ranks = { ascii_ranks };
+
+    ghost ordered = { ascii_ordered };
+
+    fn ranked_bytes(&self) -> u8 {
+        96
     }
 }

@@ -1,8 +1,7 @@
 // EBCDIC. Its segment marks leave out the byte of the end of line.
-ghost use Rattle.std.specs.Prelude.{◌≡◌, length};
-ghost use Rattle.code.specs.Ebcdic.{ebcdic, ebcdic_laws, ebcdic_order, EbcdicOrder};
+ghost use Rattle.code.specs.Ebcdic.{ebcdic, ebcdic_laws, ebcdic_order, ebcdic_ordered};
 
-use crate::Code;
+use crate::{Code, Ranked};
 
 const NUMBER: u8 = 2;
 
@@ -12,16 +11,6 @@ const CREATION_MARK: u8 = 0xFA;
 
 #[derive(Clone, Copy)]
 pub struct Ebcdic;
-
-impl Ebcdic {
-    // How many bytes have a rank: the end of line, then the characters in byte order.
-    pub fn ranked_bytes(&self) -> u8
-        ensures counted { result ≡ length ebcdic_order }
-        ensures ordered { EbcdicOrder }
-    {
-        187
-    }
-}
 
 impl Code for Ebcdic {
     ghost meaning = { ebcdic };
@@ -94,5 +83,18 @@ impl Code for Ebcdic {
             0xC1..=0xC9 | 0xD1..=0xD9 | 0xE2..=0xE9 => byte - 0x40,
             _ => byte,
         }
+    }
+}
+
+// The end of line, then the characters in byte order; each is its own rank.
+impl Ranked for Ebcdic {
+    ghost order = { ebcdic_order };
+
+    ghost ranks = { ebcdic_order };
+
+    ghost ordered = { ebcdic_ordered };
+
+    fn ranked_bytes(&self) -> u8 {
+        187
     }
 }

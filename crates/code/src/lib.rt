@@ -8,9 +8,11 @@ ghost use Rattle.code.specs.Meaning.{byte_of as byte_of_char, mark_of as mark_of
 
 mod ascii;
 mod ebcdic;
+mod ranked;
 
 pub use ascii::Ascii;
 pub use ebcdic::Ebcdic;
+pub use ranked::Ranked;
 
 // The interface of a character code. Each function answers exactly the meaning, for every argument.
 pub trait Code {

@@ -1,5 +1,5 @@
 -- Where the program of a name stands.
-use Rattle.std.proofs.Common.{◌≡◌, ℕ, zero, suc, ◌+◌, ◌<◌, Bool, true, false, cond, List, [], ◌∷◌, length, Some, None, Decides, Option, refl, sym, ap, ◌∙◌, add-one, arith, Bor}
+use Rattle.std.proofs.Common.{◌≡◌, ℕ, zero, suc, ◌+◌, ◌<◌, ◌≤◌, MatchOption, Bool, true, false, cond, List, [], ◌∷◌, length, Some, None, Decides, Option, refl, sym, ap, ◌∙◌, add-one, arith, Bor}
 use Rattle.std.specs.Option.{option_map, option_eq}
 use Rattle.std.specs.Str.{bytes_eq}
 use Rattle.std.proofs.lemmas.Slice.Eq.{bytes_eq-Decides}
@@ -45,3 +45,12 @@ place_none n (p ∷ ps) before =
 pub place_only : (n : List ℕ) (ps : List Program) (r : Option ℕ) → r ≡ place n ps → Lawful ps → (k : ℕ) → name_at ps k ≡ Some n → r ≡ Some k
 place_only n ps r is lawful k named =
     is ∙ place_first n ps k named (λ j h other. omega (arith, lawful.distinct j k (record { name = n; at_j = other; at_k = named })))
+
+-- what a search of the places in turn tells of its result r: the place of the name, that there it is, and that it is nowhere else
+pub searched : (n : List ℕ) (ps : List Program) (r : Option ℕ) (a b : ℕ) → a ≡ 0 → b ≡ length ps → MatchOption r ((k : ℕ) → a ≤ k → k < b → name_at ps k ≡ Some n → ⊥) (λ i. (a ≤ i) × (i < b) × (name_at ps i ≡ Some n) × ((k : ℕ) → a ≤ k → k < i → name_at ps k ≡ Some n → ⊥)) → Lawful ps → (r ≡ place n ps) × ((k : ℕ) → r ≡ Some k → name_at ps k ≡ Some n) × ((k : ℕ) → name_at ps k ≡ Some n → r ≡ Some k)
+searched n ps None a b from to none lawful =
+    let is = sym (place_none n ps (λ j h. none j (omega arith) (omega arith))) in
+    (is, λ k e. cc, place_only n ps None is lawful)
+searched n ps (Some i) a b from to at lawful =
+    let is = sym (place_first n ps i at.2 (λ j h. at.3 j (omega arith) h)) in
+    (is, λ k e. let same : i ≡ k = cc in rw same at at.2, place_only n ps (Some i) is lawful)

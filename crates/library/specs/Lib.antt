@@ -1,4 +1,5 @@
 pub mod Meaning
+pub mod Views
 pub mod Name
 pub mod Keeping
 pub mod Locked

@@ -27,17 +27,13 @@ pub record Library : Type 0 where
 abbrev pub program_at : List Program → ℕ → Option Program
 program_at ps p = slice_get ps p
 
-abbrev pub string_in : Option Program → ℕ → Option NamedString
-string_in None s = None
-string_in (Some p) s = slice_get p.strings s
-
-abbrev pub string_at : List Program → ℕ → ℕ → Option NamedString
-string_at ps p s = string_in (program_at ps p) s
-
 -- the strings of a program; none past the last program
 abbrev pub strings_of : Option Program → List NamedString
 strings_of None = []
 strings_of (Some p) = p.strings
+
+abbrev pub string_at : List Program → ℕ → ℕ → Option NamedString
+string_at ps p s = slice_get (strings_of (program_at ps p)) s
 
 -- the name of program p
 abbrev pub name_at : List Program → ℕ → Option (List ℕ)

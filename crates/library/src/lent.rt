@@ -1,37 +1,56 @@
-// A library that is lent to be changed is a library.
+// What is lent, shared or to be changed, is used as what it is.
+use crate::lending::Lends;
 use crate::reader::Reader;
 use crate::space::Space;
+use crate::string_view::StringView;
+use crate::strings::Source;
 
-impl<R: Reader> Reader for &mut R {
-    ghost meaning = { λ lent. R.Reader.meaning lent.now };
+// A library that is lent is a library.
+impl<P: Lends> Reader for P
+where
+    P::Target: Reader,
+{
+    ghost meaning = { λ lender. P.Target.Reader.meaning (P.Lends.lent lender) };
 
-    ghost lawful = { λ lent. R.Reader.lawful lent.now };
+    ghost lawful = { λ lender. P.Target.Reader.lawful (P.Lends.lent lender) };
 
     fn programs(&self) -> usize {
-        (**self).programs()
+        self.target().programs()
     }
 
     fn name(&self, program: usize) -> Option<&[u8]> {
-        (**self).name(program)
+        self.target().name(program)
     }
 
     fn strings(&self, program: usize) -> Option<usize> {
-        (**self).strings(program)
+        self.target().strings(program)
     }
 
-    fn string_name(&self, program: usize, string: usize) -> Option<&[u8]> {
-        (**self).string_name(program, string)
-    }
-
-    fn string_body(&self, program: usize, string: usize) -> Option<&[u8]> {
-        (**self).string_body(program, string)
+    fn string(&self, program: usize, string: usize) -> Option<StringView<'_>> {
+        self.target().string(program, string)
     }
 
     fn space(&self) -> Space {
-        (**self).space()
+        self.target().space()
     }
 
     fn is_locked(&self) -> bool {
-        (**self).is_locked()
+        self.target().is_locked()
+    }
+}
+
+// Strings that are lent are strings.
+impl<P: Lends> Source for P
+where
+    P::Target: Source,
+{
+    ghost strings = { λ lender. P.Target.Source.strings (P.Lends.lent lender) };
+
+    fn count(&self) -> usize {
+        self.target().count()
+    }
+
+    fn string(&self, string: usize) -> Option<StringView<'_>> {
+        self.target().string(string)
     }
 }

@@ -3,23 +3,26 @@
 #![tactic(auto)]
 
 mod keeper;
+mod lending;
 mod lent;
 mod lock;
 mod lookup;
 mod program_name;
 mod reader;
 mod request;
-mod shared;
 mod space;
+mod string_view;
 mod strings;
 mod using;
 
 pub use keeper::Keeper;
+pub use lending::Lends;
 pub use lock::Lock;
 pub use lookup::find_program;
 pub use program_name::ProgramName;
 pub use reader::Reader;
 pub use request::{Request, carry_out, carry_out_all};
 pub use space::Space;
-pub use strings::Source;
+pub use string_view::StringView;
+pub use strings::{Source, StringViews};
 pub use using::{store_and_find, try_out};

@@ -1,10 +1,11 @@
 // A library that nobody stores into: any reading library behind a lock.
-ghost use Rattle.library.specs.Locked.{locked_library};
+ghost use Rattle.library.specs.Locked.{lock_meaning};
 
 use crate::keeper::Keeper;
 use crate::program_name::ProgramName;
 use crate::reader::Reader;
 use crate::space::Space;
+use crate::string_view::StringView;
 use crate::strings::Source;
 use refusal::Refusal;
 
@@ -15,7 +16,7 @@ pub struct Lock<R> {
 }
 
 impl<R: Reader> Reader for Lock<R> {
-    ghost meaning = { λ lock. locked_library (R.Reader.meaning lock.inner).programs };
+    ghost meaning = { lock_meaning R.Reader.meaning };
 
     ghost lawful = { λ lock. R.Reader.lawful lock.inner };
 
@@ -31,20 +32,12 @@ impl<R: Reader> Reader for Lock<R> {
         self.inner.strings(program)
     }
 
-    fn string_name(&self, program: usize, string: usize) -> Option<&[u8]> {
-        self.inner.string_name(program, string)
-    }
-
-    fn string_body(&self, program: usize, string: usize) -> Option<&[u8]> {
-        self.inner.string_body(program, string)
+    fn string(&self, program: usize, string: usize) -> Option<StringView<'_>> {
+        self.inner.string(program, string)
     }
 
     fn space(&self) -> Space {
-        Space {
-            programs: 0,
-            strings: 0,
-            bytes: 0,
-        }
+        Space::NONE
     }
 
     fn is_locked(&self) -> bool {

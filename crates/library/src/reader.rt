@@ -1,9 +1,11 @@
 // What reads a library of programs.
 ghost use Rattle.std.specs.Prelude.{◌≡◌, length};
 ghost use Rattle.std.specs.Option.{option_map};
-ghost use Rattle.library.specs.Meaning.{Library, Lawful, Program, NamedString, program_at, name_at, string_at};
+ghost use Rattle.library.specs.Meaning.{Library, Lawful, Program, program_at, name_at, string_at};
+ghost use Rattle.library.specs.Views.{string_viewed};
 
 use crate::space::Space;
+use crate::string_view::StringView;
 
 // Programs and strings are counted from 0; past the end the answer is `None`.
 pub trait Reader {
@@ -24,11 +26,9 @@ pub trait Reader {
     fn strings(&self, program: usize) -> Option<usize>
         ensures { result ≡ option_map (λ (p : Program). length p.strings) (program_at (meaning self.now).programs program) };
 
-    fn string_name(&self, program: usize, string: usize) -> Option<&[u8]>
-        ensures { option_map (λ x. x.now) result ≡ option_map (λ (s : NamedString). s.name) (string_at (meaning self.now).programs program string) };
-
-    fn string_body(&self, program: usize, string: usize) -> Option<&[u8]>
-        ensures { option_map (λ x. x.now) result ≡ option_map (λ (s : NamedString). s.body) (string_at (meaning self.now).programs program string) };
+    // A string of a program.
+    fn string(&self, program: usize, string: usize) -> Option<StringView<'_>>
+        ensures { option_map string_viewed result ≡ string_at (meaning self.now).programs program string };
 
     // The space left.
     fn space(&self) -> Space

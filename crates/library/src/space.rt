@@ -6,3 +6,12 @@ pub struct Space {
     pub strings: usize,
     pub bytes: usize,
 }
+
+impl Space {
+    // No space left.
+    pub const NONE: Space = Space {
+        programs: 0,
+        strings: 0,
+        bytes: 0,
+    };
+}

@@ -1,10 +1,13 @@
 // Strings that are handed over to be stored.
-ghost use Rattle.std.specs.Prelude.{◌≡◌, List, length};
+ghost use Rattle.std.specs.Prelude.{◌≡◌, List, length, map};
 ghost use Rattle.std.specs.Option.{option_map};
 ghost use Rattle.std.specs.List.{slice_get};
 ghost use Rattle.library.specs.Meaning.{NamedString};
+ghost use Rattle.library.specs.Views.{string_viewed};
 
-// Where the strings of a program come from, each a name and a body, counted from 0. Nothing is copied to hand them over.
+use crate::string_view::StringView;
+
+// Where the strings of a program come from, counted from 0. Nothing is copied to hand them over.
 pub trait Source {
     ghost strings: { Self → List NamedString };
 
@@ -12,9 +15,24 @@ pub trait Source {
     fn count(&self) -> usize
         ensures { result ≡ length (strings self.now) };
 
-    fn name(&self, string: usize) -> Option<&[u8]>
-        ensures { option_map (λ x. x.now) result ≡ option_map (λ (s : NamedString). s.name) (slice_get (strings self.now) string) };
+    fn string(&self, string: usize) -> Option<StringView<'_>>
+        ensures { option_map string_viewed result ≡ slice_get (strings self.now) string };
+}
 
-    fn body(&self, string: usize) -> Option<&[u8]>
-        ensures { option_map (λ x. x.now) result ≡ option_map (λ (s : NamedString). s.body) (slice_get (strings self.now) string) };
+// Strings that a host has in a slice.
+#[derive(Clone, Copy)]
+pub struct StringViews<'a> {
+    pub views: &'a [StringView<'a>],
+}
+
+impl<'a> Source for StringViews<'a> {
+    ghost strings = { λ source. map string_viewed source.views.now };
+
+    fn count(&self) -> usize {
+        self.views.len()
+    }
+
+    fn string(&self, string: usize) -> Option<StringView<'_>> {
+        self.views.get(string).copied()
+    }
 }

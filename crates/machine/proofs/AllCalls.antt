@@ -11,7 +11,7 @@ use Rattle.machine.specs.declared.built_in.LibraryFunction.{LibraryFunction}
 use Rattle.machine.specs.declared.built_in.LibraryFunction.TheVariants.{Store, Delete, Copy, Names, Pdf}
 use Rattle.machine.specs.declared.rule.Rule.{Rule}
 use Rattle.machine.specs.declared.rule.Rule.TheVariants.{EndOfLine, Escape, OpenPassive, OpenActive, Bracket, Separator, Close, Other}
-use Rattle.machine.specs.Texts.{Text, Code, not_empty, some_is, creation, proper_name, proper_body}
+use Rattle.machine.specs.Texts.{Text, Code, not_empty, creation, proper_name, proper_body}
 use Rattle.machine.specs.Chain.{bounds, Came, gave, stopped, walk}
 use Rattle.machine.specs.BuiltIns.{least}
 use Rattle.machine.specs.Dictionary.{Dictionary, Meaning, built_in, string, Str, new_string, rest_of, look_up, define}
@@ -22,6 +22,7 @@ use Rattle.machine.specs.Scan.{State, inside, called_name, parameters, rule, dro
 use Rattle.machine.specs.Calls.{Call, expand, look, Memory, Done, came_to, world_of, from_zero, turned_away, good_source, carried_out, unless_away, done, memory_after}
 use Rattle.machine.proofs.Kept.{Keeps, Kept, kept_by_walk, kept_by_bind}
 use Rattle.machine.proofs.Edits.{Lasting, Holds, Leaves, on_dictionary_leaves, on_selection_leaves, on_classes_leaves, on_text_leaves, on_arithmetic_leaves, on_comparison_leaves, on_others_leaves, stored_leaves, deleted_leaves, named_leaves, defined_program_leaves}
+use Rattle.std.specs.List.{list_any}
 
 module _ (P : Dictionary → Type 0) where
   -- it holds whether the scan has room or not
@@ -96,7 +97,7 @@ module _ (code : Code) (P : Dictionary → Type 0) (Good : Str → Type 0) (l : 
     perform_keeps None = h
     perform_keeps (Some (built_in f)) = cond_both (leb (least f) (length ps)) _ _ (Keeps (Holds P) (Readies P)) (λ e. apply_keeps f) (λ e. h)
     perform_keeps (Some (string s)) =
-        cond_both (some_is (creation code) (rest_of s)) _ _ (Keeps (Holds P) (Readies P)) (λ e. (h, λ n. (h, h))) (λ e. (h, h))
+        cond_both (list_any (creation code) (rest_of s)) _ _ (Keeps (Holds P) (Readies P)) (λ e. (h, λ n. (h, h))) (λ e. (h, h))
 
   function_keeps : (n : Text) (ps : List Text) (w : World) → Holds P w → Keeps (Holds P) (Readies P) (function code n ps w)
   function_keeps n ps w h =

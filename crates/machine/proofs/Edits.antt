@@ -19,7 +19,7 @@ use Rattle.machine.specs.declared.built_in.ComparisonFunction.{ComparisonFunctio
 use Rattle.machine.specs.declared.built_in.ComparisonFunction.TheVariants.{Eq, Gt, Lt, EqText, GtText, LtText}
 use Rattle.machine.specs.declared.built_in.OtherFunction.{OtherFunction}
 use Rattle.machine.specs.declared.built_in.OtherFunction.TheVariants.{Ndf, Ps, Break}
-use Rattle.machine.specs.Texts.{Text, Code, every, not_empty, segment, proper_name, begins, found_at}
+use Rattle.machine.specs.Texts.{Text, Code, not_empty, segment, proper_name, begins, found_at}
 use Rattle.machine.specs.Faults.{Fault, foreign_text}
 use Rattle.machine.specs.Dictionary.{Dictionary, Meaning, built_in, string, Str, rest_of, new_string, in_classes, with_class, without_class, with_classes, class_of, look_up, define, change, erase}
 use Rattle.machine.specs.Numbers.{Numeral, read_integer, written}
@@ -33,6 +33,7 @@ use Rattle.machine.specs.Comparisons.{on_comparison}
 use Rattle.machine.specs.Libraries.{has_program, program_named, is_string, program_to_store, store_program, delete_program, if_program, with_commas, string_names, program_defined}
 use Rattle.machine.specs.Functions.{on_others}
 use Rattle.machine.proofs.Passing.{Room, bytes_within, begun_within, run_within, first_room, zero_level_room, found_room}
+use Rattle.std.specs.List.{list_all}
 
 -- P lasts through each edit of a dictionary; Good is what it asks of the strings
 pub record Lasting (code : Code) (P : Dictionary → Type 0) (Good : Str → Type 0) : Type 0 where
@@ -215,8 +216,8 @@ module _ (code : Code) (P : Dictionary → Type 0) (Good : Str → Type 0) (l : 
 
   pub stored_leaves : (ps : List Text) → Leaves P (store_program code ps w)
   stored_leaves ps =
-      if_so (every (λ n. is_some (look_up code w.dictionary n)) (drop 1 ps)) _ _
-      (if_so (every (λ n. is_string (look_up code w.dictionary n)) (drop 1 ps)) _ _
+      if_so (list_all (λ n. is_some (look_up code w.dictionary n)) (drop 1 ps)) _ _
+      (if_so (list_all (λ n. is_string (look_up code w.dictionary n)) (drop 1 ps)) _ _
       (if_so (fits_name (p1 ps)) _ _
       (if_so (not w.library.locked) _ _
       (if_so (not (has_program (p1 ps) w.library)) _ _
@@ -232,11 +233,11 @@ module _ (code : Code) (P : Dictionary → Type 0) (Good : Str → Type 0) (l : 
       listed : Program → Outcome
       listed p =
           let names = map (λ (s : NamedString). s.name) p.strings in
-          provided (every (proper_name code) names) foreign_text w (valued (with_commas (code.named 44) names) w)
+          provided (list_all (proper_name code) names) foreign_text w (valued (with_commas (code.named 44) names) w)
 
       at : (o : Option Program) → Leaves P (if_program o w listed)
       at None = h
-      at (Some p) = if_so (every (proper_name code) (map (λ (s : NamedString). s.name) p.strings)) _ _ h
+      at (Some p) = if_so (list_all (proper_name code) (map (λ (s : NamedString). s.name) p.strings)) _ _ h
 
   pub defined_program_leaves : (ps : List Text) → Leaves P (program_defined ps w)
   defined_program_leaves ps = if_so (fits_name (p1 ps)) _ _ h

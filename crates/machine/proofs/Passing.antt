@@ -3,9 +3,10 @@ use Rattle.std.proofs.Common.{◌≡◌, ℕ, zero, suc, pred, ◌+◌, ◌≤�
 use Rattle.std.specs.Option.{option_map}
 use Rattle.std.proofs.lemmas.Bool.{cond_both, and_parts}
 use Rattle.code.specs.Meaning.{marked}
-use Rattle.machine.specs.Texts.{Text, Code, begins, not_empty, found_at, first_place, run_length}
+use Rattle.machine.specs.Texts.{Text, Code, begins, not_empty, found_at, first_place}
 use Rattle.machine.specs.Selection.{bytes_to_pass, zero_level}
 use Rattle.machine.proofs.Common.{begun}
+use Rattle.std.specs.List.{prefix_len}
 
 pub bytes_within : (code : Code) (n : ℕ) (t : Text) → bytes_to_pass code n t ≤ length t
 bytes_within code zero t = omega arith
@@ -13,7 +14,7 @@ bytes_within code (suc n) [] = omega arith
 bytes_within code (suc n) (b ∷ bs) =
     cond_both (marked code b) _ _ (λ k. suc k ≤ suc (length bs)) (λ e. omega (arith, bytes_within code (suc n) bs)) (λ e. omega (arith, bytes_within code n bs))
 
-pub run_within : (f : ℕ → Bool) (t : Text) → run_length f t ≤ length t
+pub run_within : (f : ℕ → Bool) (t : Text) → prefix_len f t ≤ length t
 run_within f [] = omega arith
 run_within f (b ∷ bs) = cond_both (f b) _ _ (λ k. k ≤ suc (length bs)) (λ e. omega (arith, run_within f bs)) (λ e. omega arith)
 

@@ -6,7 +6,7 @@ use Rattle.refusal.specs.declared.Refusal.TheVariants.{AllowanceOutOfRange, Area
 use Rattle.code.specs.Meaning.{CodeLaws}
 use Rattle.machine.specs.declared.amounts.Amounts.{Amounts}
 use Rattle.machine.specs.declared.amounts.Limits.{Limits}
-use Rattle.machine.specs.Texts.{Text, Code, every}
+use Rattle.machine.specs.Texts.{Text, Code}
 use Rattle.machine.specs.Chain.{give, bounds, Tally, gave, walk}
 use Rattle.machine.specs.World.{World}
 use Rattle.machine.specs.Scan.{State, step, scanning, expansion}
@@ -15,6 +15,7 @@ use Rattle.machine.specs.Calls.{Areas, Done, expand, areas_suffice, world_of, fr
 use Rattle.machine.specs.Laws.{plain, PlainTextIsItself}
 use Rattle.machine.proofs.Common.{never}
 use Rattle.machine.proofs.Ruling.{by_one_rule}
+use Rattle.std.specs.List.{list_all}
 
 -- what a plain byte is
 record IsPlain (code : Code) (b : ℕ) : Type 0 where
@@ -60,7 +61,7 @@ counted source n created =
 
 module _ (code : Code) (laws : CodeLaws code) (b : Amounts) (w : World) (source created : ℕ) where
   -- the scan of plain text t behind n steps
-  scanned_plain : (t l : Text) (more n : ℕ) → every (plain code) t ≡ true → length t ≤ more → n + length t ≤ b.steps →
+  scanned_plain : (t l : Text) (more n : ℕ) → list_all (plain code) t ≡ true → length t ≤ more → n + length t ≤ b.steps →
       walk b (counted source n created) (scanning code more n (outside l t w))
       ≡ gave (outside (l ++ t) [] w) (counted source (n + length t) created)
   unfolding scanning
@@ -68,7 +69,7 @@ module _ (code : Code) (laws : CodeLaws code) (b : Amounts) (w : World) (source 
   scanned_plain [] l (suc more) n e h k = rw (append-nil l, add-zero n)
   scanned_plain (x ∷ t) l zero n e h k = absurd (omega arith)
   scanned_plain (x ∷ t) l (suc more) n e h k =
-      let both = and_parts (plain code x) (every (plain code) t) e in
+      let both = and_parts (plain code x) (list_all (plain code) t) e in
       let room : leb (n + 1) b.steps ≡ true = le-leb (n + 1) b.steps (omega arith) in
       let higher : max n (n + 1) ≡ n + 1 = omega arith in
       let longer : n + 1 + length t ≡ n + length (x ∷ t) = omega arith in
@@ -78,10 +79,10 @@ module _ (code : Code) (laws : CodeLaws code) (b : Amounts) (w : World) (source 
       rw (passed_by code laws l t w x both.0, room, higher)
       (rest ∙ ap₂ (λ a m. gave (outside a [] w) (counted source m created)) (append_assoc l (x ∷ []) t) longer)
 
-plain_good : (code : Code) (t : Text) → every (plain code) t ≡ true → good_source code t ≡ true
+plain_good : (code : Code) (t : Text) → list_all (plain code) t ≡ true → good_source code t ≡ true
 plain_good code [] e = refl
 plain_good code (b ∷ t) e =
-    let both = and_parts (plain code b) (every (plain code) t) e in
+    let both = and_parts (plain code b) (list_all (plain code) t) e in
     and_from _ _ (or_left _ _ (is_plain code b both.0).character) (plain_good code t both.1)
 
 -- no allowance goes past 1,000,000
@@ -94,7 +95,7 @@ in_range p a source areas e = leb-true a 1000000 (go (areas_suffice p (expand a 
     go false y e = absurd (never (cc))
 
 expanded : (code : Code) → CodeLaws code → (p : Limits) (a : ℕ) (source : Text) (w : World) (created : ℕ) →
-    every (plain code) source ≡ true → length source ≤ p.scan → length source ≤ a → a ≤ 1000000 →
+    list_all (plain code) source ≡ true → length source ≤ p.scan → length source ≤ a → a ≤ 1000000 →
     walk (bounds p a) (from_zero created) (expansion code source w)
     ≡ gave (outside source [] w) (counted (length source) (length source) created)
 unfolding expansion

@@ -6,11 +6,11 @@ use Rattle.std.specs.Str.{bytes_eq}
 use Rattle.std.proofs.lemmas.Slice.Eq.{bytes_eq-Decides}
 use Rattle.std.proofs.lemmas.Bool.{and_parts}
 use Rattle.machine.specs.declared.amounts.Amounts.{Amounts}
-use Rattle.machine.specs.Texts.{every}
 use Rattle.machine.specs.Dictionary.{new_dictionary}
 use Rattle.machine.specs.Scan.{step, scanning, expansion}
 use Rattle.machine.specs.Calls.{Reply}
 use Rattle.machine.specs.Cases.{Case, cases, answered, ComesOut, EveryCaseComesOut}
+use Rattle.std.specs.List.{list_all}
 
 -- amounts as a list of numbers, and back
 abbrev listed : Amounts → List ℕ
@@ -26,7 +26,7 @@ as_stated c r = bytes_eq (r.number ∷ []) (c.number ∷ []) && (bytes_eq r.show
 abbrev passes : Case → Bool
 passes c = as_stated c (answered c)
 
-all_pass : every passes cases ≡ true
+all_pass : list_all passes cases ≡ true
 unfolding answered step scanning expansion new_dictionary digits
 all_pass = refl
 
@@ -44,10 +44,10 @@ comes_out c t =
       needs_are = ap unlisted (equal (listed (answered c).needs) (listed c.needs) b.1);
     }
 
-each : (cs : List Case) → every passes cs ≡ true → AllByRecursion ComesOut cs
+each : (cs : List Case) → list_all passes cs ≡ true → AllByRecursion ComesOut cs
 each [] t = tt
 each (c ∷ cs) t =
-    let both = and_parts (passes c) (every passes cs) t in
+    let both = and_parts (passes c) (list_all passes cs) t in
     (comes_out c both.0, each cs both.1)
 
 pub every_case : EveryCaseComesOut

@@ -7,11 +7,12 @@ use Rattle.refusal.specs.declared.Refusal.{Refusal}
 use Rattle.refusal.specs.declared.Refusal.TheVariants.{LimitOutOfRange, AreaTooShort, AllowanceOutOfRange, ForeignSource}
 use Rattle.machine.specs.declared.amounts.Amounts.{Amounts}
 use Rattle.machine.specs.declared.amounts.Limits.{Limits}
-use Rattle.machine.specs.Texts.{Text, Code, every}
+use Rattle.machine.specs.Texts.{Text, Code}
 use Rattle.machine.specs.Chain.{nothing, bounds, Tally, Came, gave, stopped, walk}
 use Rattle.machine.specs.Dictionary.{Dictionary, new_dictionary, Meaning, built_in, string, rest_of, look_up}
 use Rattle.machine.specs.World.{World}
 use Rattle.machine.specs.Scan.{State, expansion}
+use Rattle.std.specs.List.{list_all}
 
 -- Make: is each limit in range?
 abbrev pub make_refusal : Limits → Option Refusal
@@ -148,7 +149,7 @@ turned_away l c = cond (areas_suffice l c) (cond (nat_le (allowance_of c) 100000
 
 -- are all bytes of the source characters or ends of lines?
 abbrev pub good_source : Code → Text → Bool
-good_source code s = every (ranked code) s
+good_source code s = list_all (ranked code) s
 
 abbrev pub carried_out : Code → Limits → Memory → Call → Done
 carried_out code l m (expand a s areas) =

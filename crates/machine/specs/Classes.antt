@@ -3,14 +3,15 @@ use Rattle.std.specs.Prelude.{ℕ, Bool, false, cond, not, ◌&&◌, List, [], �
 use Rattle.code.specs.Meaning.{ranked, marked}
 use Rattle.machine.specs.declared.built_in.ClassFunction.{ClassFunction}
 use Rattle.machine.specs.declared.built_in.ClassFunction.TheVariants.{Dcl, Dncl, Ecl, Ccl, Scl, Tcl}
-use Rattle.machine.specs.Texts.{Text, Code, some_is, run_length}
+use Rattle.machine.specs.Texts.{Text, Code}
 use Rattle.machine.specs.Faults.{no_class, too_many_classes}
 use Rattle.machine.specs.Dictionary.{Class, class_of, member, in_classes, with_class, without_class, with_classes, Str, rest_of}
 use Rattle.machine.specs.Selection.{passing}
 use Rattle.machine.specs.World.{World, with_dictionary, text, store_only, Outcome, plans, faults, provided, valued, changing, of_string, p1, p2, p3, p4}
+use Rattle.std.specs.List.{list_any, prefix_len}
 
 abbrev pub has_byte : Text → ℕ → Bool
-has_byte t b = some_is (nat_eq b) t
+has_byte t b = list_any (nat_eq b) t
 
 -- DCL: the bytes of a text; DNCL: the characters and the end of line, but those of a text
 abbrev pub the_bytes : Text → ℕ → Bool
@@ -45,7 +46,7 @@ in_class code members b = member members b && not (marked code b)
 
 -- CCL and SCL: the longest run of members, and the pointer moves past it
 abbrev pub class_run : Code → List Bool → Str → ℕ
-class_run code members s = run_length (in_class code members) (rest_of s)
+class_run code members s = prefix_len (in_class code members) (rest_of s)
 
 abbrev pub call_class : Code → List Text → World → Outcome
 call_class code ps w = of_class code ps w (λ members s. passing (p2 ps) s (class_run code members s) (take (class_run code members s) (rest_of s)) w)

@@ -7,7 +7,7 @@ use Rattle.machine.specs.declared.built_in.LibraryFunction.{LibraryFunction}
 use Rattle.machine.specs.declared.built_in.LibraryFunction.TheVariants.{Store, Delete, Copy, Names, Pdf}
 use Rattle.machine.specs.declared.built_in.OtherFunction.{OtherFunction}
 use Rattle.machine.specs.declared.built_in.OtherFunction.TheVariants.{Ndf, Ps, Break}
-use Rattle.machine.specs.Texts.{Text, Code, creation, some_is}
+use Rattle.machine.specs.Texts.{Text, Code, creation}
 use Rattle.machine.specs.Faults.{undefined, too_few_parameters}
 use Rattle.machine.specs.Chain.{Run, give, fault, number, ◌>>=◌}
 use Rattle.machine.specs.BuiltIns.{least}
@@ -20,6 +20,7 @@ use Rattle.machine.specs.Classes.{on_classes}
 use Rattle.machine.specs.Arithmetic.{on_arithmetic}
 use Rattle.machine.specs.Comparisons.{on_comparison}
 use Rattle.machine.specs.Libraries.{store_program, delete_program, copy_program, string_names, program_defined, retrieving}
+use Rattle.std.specs.List.{list_any}
 
 -- NDF: p2 if the dictionary has the name p1, a built-in's too, else p3
 abbrev pub name_defined : Code → List Text → World → Outcome
@@ -83,7 +84,7 @@ string_ready numbered v w = record { result = text v; after = w; kept = w; numbe
 
 abbrev pub string_value : Code → Text → List Text → World → Run World Ready
 string_value code t ps w =
-    cond (some_is (creation code) t)
+    cond (list_any (creation code) t)
     (number w (λ n. give (string_ready true (filled code ps (four_digits code n) t) w)))
     (give (string_ready false (filled code ps [] t) w))
 

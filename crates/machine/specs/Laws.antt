@@ -8,7 +8,7 @@ use Rattle.library.specs.Meaning.{Library, Program, NamedString}
 use Rattle.refusal.specs.declared.Refusal.{Refusal}
 use Rattle.machine.specs.declared.amounts.Amounts.{Amounts}
 use Rattle.machine.specs.declared.amounts.Limits.{Limits}
-use Rattle.machine.specs.Texts.{Text, Code, every}
+use Rattle.machine.specs.Texts.{Text, Code}
 use Rattle.machine.specs.Faults.{Fault, refusal_of}
 use Rattle.machine.specs.Chain.{Tally, gave, walk}
 use Rattle.machine.specs.Dictionary.{Dictionary, Row, Meaning, string, Str, new_string, in_rows, look_up, define, change, erase}
@@ -19,6 +19,7 @@ use Rattle.machine.specs.Libraries.{fetching, put_in_library, take_from_library}
 use Rattle.machine.specs.Scan.{match_of}
 use Rattle.machine.specs.Functions.{filled}
 use Rattle.machine.specs.Calls.{expand, Areas, Memory, replying, no_finding, turned_away, done}
+use Rattle.std.specs.List.{list_all}
 
 -- PLAIN TEXT
 
@@ -34,7 +35,7 @@ scanned n = record { names = 0; roll = 0; store = 0; scan = n; print = 0; steps 
 abbrev pub PlainTextIsItself : Type 0
 PlainTextIsItself =
     (code : Code) → CodeLaws code → (p : Limits) (m : Memory) (a : ℕ) (source : Text) (areas : Areas) →
-    every (plain code) source ≡ true → length source ≤ p.scan → length source ≤ a → turned_away p (expand a source areas) ≡ None →
+    list_all (plain code) source ≡ true → length source ≤ p.scan → length source ≤ a → turned_away p (expand a source areas) ≡ None →
     (done code p m (expand a source areas)).after.replied ≡ replying 0 source [] (scanned (length source)) no_finding
 
 -- BRACKETS
@@ -87,7 +88,7 @@ SumsAgreeWithTheIntegers = (z : ℤ) → LastDigits z
 -- SEGMENTS
 
 abbrev pub unmarked : Code → Text → Bool
-unmarked code t = every (λ b. not (marked code b)) t
+unmarked code t = list_all (λ b. not (marked code b)) t
 
 -- A new string is segmented on p. Its value with p as the parameter is the string as it was defined.
 abbrev pub ParametersGoBackWhereTheyStood : Type 0

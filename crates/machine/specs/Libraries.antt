@@ -3,15 +3,17 @@ use Rattle.std.specs.Prelude.{ℕ, Bool, true, false, cond, not, ◌&&◌, List,
 use Rattle.library.specs.Meaning.{Library, Program, NamedString, place, program_at}
 use Rattle.library.specs.Name.{fits_name}
 use Rattle.library.specs.Keeping.{fits, space_of, with_program, without_program}
-use Rattle.machine.specs.Texts.{Text, Code, every, if_some, proper_name, proper_body}
+use Rattle.machine.specs.Texts.{Text, Code, proper_name, proper_body}
 use Rattle.machine.specs.Faults.{names?, store?, no_name, not_a_string, program_name_length, locked, program_present, program_absent, library_full, foreign_text}
 use Rattle.machine.specs.Chain.{Run, give, fault, ask, ◌>>=◌}
 use Rattle.machine.specs.Dictionary.{Dictionary, Meaning, built_in, string, new_string, body_of, look_up, define, names_in, bytes_in}
 use Rattle.machine.specs.World.{World, with_dictionary, with_library, text, nothing_more, Outcome, faults, provided, valued, changing, Ready, ready, p1, p2, p3}
+use Rattle.std.specs.List.{list_all}
+use Rattle.std.specs.Option.{option_and_then}
 
 -- the program of a name
 abbrev pub program_named : Text → Library → Option Program
-program_named n l = if_some (place n l.programs) (program_at l.programs)
+program_named n l = option_and_then (program_at l.programs) (place n l.programs)
 
 abbrev pub has_program : Text → Library → Bool
 has_program n l = is_some (place n l.programs)
@@ -40,8 +42,8 @@ put_in_library p w =
 
 abbrev pub store_program : Code → List Text → World → Outcome
 store_program code ps w =
-    provided (every (λ n. is_some (look_up code w.dictionary n)) (drop 1 ps)) no_name w
-    (provided (every (λ n. is_string (look_up code w.dictionary n)) (drop 1 ps)) not_a_string w
+    provided (list_all (λ n. is_some (look_up code w.dictionary n)) (drop 1 ps)) no_name w
+    (provided (list_all (λ n. is_string (look_up code w.dictionary n)) (drop 1 ps)) not_a_string w
     (provided (fits_name (p1 ps)) program_name_length w
     (put_in_library (program_to_store code ps w.dictionary) w)))
 
@@ -73,7 +75,7 @@ abbrev pub string_names : Code → List Text → World → Outcome
 string_names code ps w =
     of_program ps w (λ p.
     let names = map (λ (s : NamedString). s.name) p.strings in
-    provided (every (proper_name code) names) foreign_text w (valued (with_commas (code.named 44) names) w))
+    provided (list_all (proper_name code) names) foreign_text w (valued (with_commas (code.named 44) names) w))
 
 -- PDF: p2 if the program is there, else p3
 abbrev pub program_defined : List Text → World → Outcome

@@ -1,8 +1,8 @@
 -- Decimal integers: how they are read and written. Assumes nothing.
 use Rattle.std.specs.Prelude.{ℕ, ◌+◌, ◌*◌, Bool, true, false, cond, [], ◌∷◌, length, ℤ, pos, neg_ℤ, Some, None, codes, Option, ◌==◌, nat_eq}
-use Rattle.std.specs.Option.{option_map}
+use Rattle.std.specs.Option.{option_map, option_and_then}
 use Rattle.std.specs.Fmt.{signed_decimal}
-use Rattle.machine.specs.Texts.{Text, Code, spelled, first_place, if_some}
+use Rattle.machine.specs.Texts.{Text, Code, spelled, first_place}
 
 pub record Numeral : Type 0 where
   -- is a sign written?
@@ -18,7 +18,7 @@ digit code b = first_place (λ d. nat_eq d b) (spelled code (codes "0123456789")
 -- the value of digits that follow those of value v
 abbrev pub digits_from : Code → ℕ → Text → Option ℕ
 digits_from code v [] = Some v
-digits_from code v (b ∷ bs) = if_some (digit code b) (λ d. digits_from code (v * 10 + d) bs)
+digits_from code v (b ∷ bs) = option_and_then (λ d. digits_from code (v * 10 + d) bs) (digit code b)
 
 -- at least one digit
 abbrev pub read_digits : Code → Text → Option ℕ

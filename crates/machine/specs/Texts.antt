@@ -1,7 +1,8 @@
 -- Texts, and the bytes in them. Assumes nothing.
-use Rattle.std.specs.Prelude.{ℕ, suc, max, Bool, true, false, cond, not, ◌&&◌, ◌||◌, List, [], ◌∷◌, map, is_some, Some, None, Option, ◌==◌, nat_lt}
+use Rattle.std.specs.Prelude.{ℕ, suc, max, Bool, true, false, cond, not, ◌&&◌, List, [], ◌∷◌, map, is_some, Some, None, Option, ◌==◌, nat_lt}
 use Rattle.std.specs.Option.{option_map, unwrap_or}
 use Rattle.code.specs.Meaning.{CodeMeaning, marked, body_byte, rank_of}
+use Rattle.std.specs.List.{filter, list_all}
 
 abbrev pub Text : Type 0
 Text = List ℕ
@@ -14,35 +15,10 @@ Code = CodeMeaning
 abbrev pub spelled : Code → List ℕ → Text
 spelled code chars = map code.named chars
 
--- what comes of an element that is there
-abbrev pub if_some : {X Y : Type 0} → Option X → (X → Option Y) → Option Y
-if_some None f = None
-if_some (Some x) f = f x
-
--- Tests over the elements of a list.
-
-abbrev pub every : {X : Type 0} → (X → Bool) → List X → Bool
-every f [] = true
-every f (x ∷ xs) = f x && every f xs
-
-abbrev pub some_is : {X : Type 0} → (X → Bool) → List X → Bool
-some_is f [] = false
-some_is f (x ∷ xs) = f x || some_is f xs
-
--- the elements that pass the test
-abbrev pub those : {X : Type 0} → (X → Bool) → List X → List X
-those f [] = []
-those f (x ∷ xs) = cond (f x) (x ∷ those f xs) (those f xs)
-
 -- the place of the first element that passes the test
 abbrev pub first_place : {X : Type 0} → (X → Bool) → List X → Option ℕ
 first_place f [] = None
 first_place f (x ∷ xs) = cond (f x) (Some 0) (option_map suc (first_place f xs))
-
--- how many elements pass the test before the first that does not
-abbrev pub run_length : {X : Type 0} → (X → Bool) → List X → ℕ
-run_length f [] = 0
-run_length f (x ∷ xs) = cond (f x) (suc (run_length f xs)) 0
 
 abbrev pub not_empty : {X : Type 0} → List X → Bool
 not_empty [] = false
@@ -58,7 +34,7 @@ abbrev pub creation : Code → ℕ → Bool
 creation code b = b == code.creation_mark
 
 abbrev pub without_marks : Code → Text → Text
-without_marks code t = those (λ b. not (marked code b)) t
+without_marks code t = filter (λ b. not (marked code b)) t
 
 -- the highest number of a segment mark in a body, or 0 where it has none
 abbrev pub highest_mark : Code → Text → ℕ
@@ -69,11 +45,11 @@ highest_mark code (b ∷ bs) = max (unwrap_or (code.mark_number b) 0) (highest_m
 
 -- names: characters
 abbrev pub proper_name : Code → Text → Bool
-proper_name code t = every code.character t
+proper_name code t = list_all code.character t
 
 -- bodies: characters, ends of lines and marks
 abbrev pub proper_body : Code → Text → Bool
-proper_body code t = every (body_byte code) t
+proper_body code t = list_all (body_byte code) t
 
 -- Searching.
 

@@ -2,9 +2,12 @@
 
 #![tactic(auto)]
 
-ghost use Rattle.std.specs.Prelude.{◌≡◌};
+ghost use Rattle.std.specs.Prelude.{◌≡◌, Some};
 ghost use Rattle.refusal.specs.Names.{name_of as name_of_refusal};
 ghost use Rattle.refusal.specs.Numbers.{NumbersDiffer, number_of as number_of_refusal};
+
+use std::error::Error;
+use std::fmt;
 
 #[derive(Clone, Copy, PartialEq, Eq, Debug)]
 pub enum Refusal {
@@ -138,3 +141,14 @@ impl Refusal {
         }
     }
 }
+
+// It is shown by what it is called.
+impl fmt::Display for Refusal {
+    ghost output = { λ refusal. Some (name_of_refusal refusal) };
+
+    fn fmt<W: fmt::Write>(&self, f: &mut fmt::Formatter<W>) -> fmt::Result {
+        f.write_str(self.name())
+    }
+}
+
+impl Error for Refusal {}

@@ -2,9 +2,10 @@
 ghost use Rattle.std.specs.Prelude.{◌≡◌, is_some, if◌then◌else◌, Some, None};
 ghost use Rattle.std.specs.Option.{option_map};
 ghost use Rattle.library.specs.Meaning.{NameLength};
-ghost use Rattle.library.specs.Name.{name_bytes, fits_name};
+ghost use Rattle.library.specs.Name.{name_bytes, fits_name, NamedBy};
 
 use super::{LONGEST, ProgramName};
+use refusal::Refusal;
 
 impl ProgramName {
     // `None` unless there are 1 to 20 bytes.
@@ -28,5 +29,16 @@ impl ProgramName {
     {
         let len = self.len;
         &self.bytes[0..len]
+    }
+}
+
+// Bytes that are no name are refused.
+impl TryFrom<&[u8]> for ProgramName {
+    type Error = Refusal;
+
+    ghost try_from_gives = { NamedBy };
+
+    fn try_from(bytes: &[u8]) -> Result<ProgramName, Refusal> {
+        ProgramName::new(bytes).ok_or(Refusal::ProgramNameLength)
     }
 }
