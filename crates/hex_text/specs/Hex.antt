@@ -1,5 +1,5 @@
 -- Bytes as text in hex, two digits to a byte. Assumes nothing.
-use Rattle.std.specs.Prelude.{◌≡◌, ℕ, ◌+◌, ◌-◌, ◌*◌, ◌/◌, ◌%◌, ◌<◌, cond, ◌&&◌, List, [], ◌∷◌, Some, None, Option, nat_le, nat_lt}
+use Rattle.std.specs.Prelude.{◌≡◌, ◌↔◌, ℕ, ◌+◌, ◌-◌, ◌*◌, ◌/◌, ◌%◌, ◌<◌, cond, ◌&&◌, List, [], ◌∷◌, length, Some, None, Option, nat_le, nat_lt, slice_index}
 use Rattle.std.specs.List.{flat_map, AllByRecursion}
 
 -- Reading.
@@ -24,6 +24,19 @@ abbrev pub unhexed : List ℕ → Option (List ℕ)
 unhexed [] = Some []
 unhexed (c ∷ []) = None
 unhexed (high ∷ low ∷ rest) = before (two_digits (digit_value high) (digit_value low)) (unhexed rest)
+
+-- the byte that the digits at 2 i and 2 i + 1 are
+abbrev pub byte_at : List ℕ → ℕ → Option ℕ
+byte_at text i = two_digits (digit_value (slice_index text (2 * i))) (digit_value (slice_index text (2 * i + 1)))
+
+-- the text is these bytes in hex
+pub record InHex (text bytes : List ℕ) : Type 0 where
+  pub long : length text ≡ 2 * length bytes
+  pub each_byte : (i : ℕ) → i < length bytes → byte_at text i ≡ Some (slice_index bytes i)
+
+-- Exactly the texts in hex are read, and as the bytes that they are.
+abbrev pub ReadsInHex : Type 0
+ReadsInHex = (text bytes : List ℕ) → (unhexed text ≡ Some bytes) ↔ InHex text bytes
 
 -- Writing.
 

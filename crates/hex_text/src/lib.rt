@@ -6,4 +6,4 @@ mod reading;
 mod writing;
 
 pub use reading::unhex;
-pub use writing::push_hex;
+pub use writing::{Hex, push_hex};

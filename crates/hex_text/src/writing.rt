@@ -1,35 +1,31 @@
 // Bytes to text in hex.
-ghost use Rattle.std.specs.Prelude.{◌≡◌, ◌<◌, ◌++◌, string_bytes, OnOk};
-ghost use Rattle.hex_text.specs.Hex.{digit_of, hexed_byte, hexed, ReadsBack};
+ghost use Rattle.std.specs.Prelude.{◌≡◌, ◌++◌, string_bytes, OnOk, Some};
+ghost use Rattle.hex_text.specs.Hex.{hexed, ReadsBack};
 
 use std::alloc::AllocError;
+use std::fmt;
 
-fn digit(value: u8) -> char
-    requires { value < 16 }
-    ensures { result ≡ digit_of value }
-{
-    if value < 10 {
-        (b'0' + value) as char
-    } else {
-        (87 + value) as char
+// Bytes that are shown in hex.
+#[derive(Clone, Copy, Debug, PartialEq, Eq)]
+pub struct Hex<'a>(pub &'a [u8]);
+
+impl<'a> fmt::Display for Hex<'a> {
+    ghost output = { λ h. Some (hexed h.0.now) };
+
+    fn fmt<W: fmt::Write>(&self, f: &mut fmt::Formatter<W>) -> fmt::Result {
+        for &byte in self.0 {
+            write!(f, "{byte:02x}")?;
+        }
+        Ok(())
     }
 }
 
-fn push_byte(out: &mut String, byte: u8) -> Result<(), AllocError>
-    ensures { OnOk result (string_bytes out.new ≡ string_bytes out.old ++ hexed_byte byte) }
-{
-    let (high, low) = (byte / 16, byte % 16);
-    out.push(digit(high))?;
-    out.push(digit(low))
-}
-
 // Adds bytes in hex to a text.
+#[tactic(auto, using(crate::proofs::Law::reads_back))]
 pub fn push_hex(out: &mut String, bytes: &[u8]) -> Result<(), AllocError>
     ensures added { OnOk result (string_bytes out.new ≡ string_bytes out.old ++ hexed bytes.now) }
     ensures law { ReadsBack }
 {
-    for byte in bytes {
-        push_byte(out, *byte)?;
-    }
-    Ok(())
+    let hex = Hex(bytes);
+    write!(out, "{hex}")
 }

@@ -5,13 +5,12 @@
 #![tactic(auto)]
 
 mod answer;
-mod hex;
 mod host;
 
 use answer::answer;
 use anyhow::anyhow;
 use code::{Ascii, Ebcdic};
-use hex::unhex;
+use hex_text::unhex;
 use host::find_and_clear;
 
 // An image of one program, CLOCK, with one string, HOUR, whose body is 12.

@@ -1,6 +1,6 @@
 // What a processor has limits of.
 
-#[derive(Clone, Copy)]
+#[derive(Clone, Copy, Debug, PartialEq, Eq)]
 pub struct Limits {
     pub names: usize,
     pub roll: usize,
@@ -10,7 +10,7 @@ pub struct Limits {
 }
 
 // An amount of each thing that an expansion counts: what bounds it, or what it needed.
-#[derive(Clone, Copy)]
+#[derive(Clone, Copy, Debug, Default, PartialEq, Eq)]
 pub struct Amounts {
     // strings and copied built-ins
     pub names: usize,

@@ -1,6 +1,6 @@
 // The 46 built-in functions, in their groups.
 
-#[derive(Clone, Copy)]
+#[derive(Clone, Copy, Debug, PartialEq, Eq)]
 pub enum BuiltIn {
     Dictionary(DictionaryFunction),
     Selection(SelectionFunction),
@@ -13,7 +13,7 @@ pub enum BuiltIn {
 }
 
 // They define, change and erase strings.
-#[derive(Clone, Copy)]
+#[derive(Clone, Copy, Debug, PartialEq, Eq)]
 pub enum DictionaryFunction {
     Ds,
     Ap,
@@ -25,7 +25,7 @@ pub enum DictionaryFunction {
 }
 
 // They read a string from its residual pointer on, and move the pointer.
-#[derive(Clone, Copy)]
+#[derive(Clone, Copy, Debug, PartialEq, Eq)]
 pub enum SelectionFunction {
     Cc,
     Cn,
@@ -39,7 +39,7 @@ pub enum SelectionFunction {
 }
 
 // They make a text of a parameter.
-#[derive(Clone, Copy)]
+#[derive(Clone, Copy, Debug, PartialEq, Eq)]
 pub enum TextFunction {
     Gn,
     Flip,
@@ -48,7 +48,7 @@ pub enum TextFunction {
 }
 
 // They define classes of characters, and read a string by them.
-#[derive(Clone, Copy)]
+#[derive(Clone, Copy, Debug, PartialEq, Eq)]
 pub enum ClassFunction {
     Dcl,
     Dncl,
@@ -58,7 +58,7 @@ pub enum ClassFunction {
     Tcl,
 }
 
-#[derive(Clone, Copy)]
+#[derive(Clone, Copy, Debug, PartialEq, Eq)]
 pub enum ArithmeticFunction {
     Ad,
     Su,
@@ -69,7 +69,7 @@ pub enum ArithmeticFunction {
 }
 
 // They choose one of their two last parameters: the first three by numbers, the others by texts.
-#[derive(Clone, Copy)]
+#[derive(Clone, Copy, Debug, PartialEq, Eq)]
 pub enum ComparisonFunction {
     Eq,
     Gt,
@@ -79,7 +79,7 @@ pub enum ComparisonFunction {
     LtText,
 }
 
-#[derive(Clone, Copy)]
+#[derive(Clone, Copy, Debug, PartialEq, Eq)]
 pub enum LibraryFunction {
     Store,
     Delete,
@@ -88,7 +88,7 @@ pub enum LibraryFunction {
     Pdf,
 }
 
-#[derive(Clone, Copy)]
+#[derive(Clone, Copy, Debug, PartialEq, Eq)]
 pub enum OtherFunction {
     Ndf,
     Ps,

@@ -1,7 +1,7 @@
 // The roll: what is open where the scan stands.
 
 // What begins at an entry of the roll.
-#[derive(Clone, Copy)]
+#[derive(Clone, Copy, Debug, PartialEq, Eq)]
 pub enum Begins {
     ActiveCall,
     PassiveCall,
@@ -9,7 +9,7 @@ pub enum Begins {
 }
 
 // It begins behind the first `at` bytes of the left text.
-#[derive(Clone, Copy)]
+#[derive(Clone, Copy, Debug, PartialEq, Eq)]
 pub struct RollEntry {
     pub begins: Begins,
     pub at: usize,

@@ -1,6 +1,6 @@
 // The rules of the scan, in the order in which they are tried.
 
-#[derive(Clone, Copy)]
+#[derive(Clone, Copy, Debug, PartialEq, Eq)]
 pub enum Rule {
     // an end of line is dropped
     EndOfLine,

@@ -1,9 +1,8 @@
 // Questions put to a meter.
-ghost use Rattle.std.specs.Prelude.{◌≡◌, ◌+◌, ◌<◌, max};
-ghost use Rattle.machine.specs.Chain.{bounds as bounds_of, kind, amount, passed, taken};
+ghost use Rattle.std.specs.Prelude.{◌≡◌, ◌<◌, ◌≤◌, max, OnOk, IfErr};
+ghost use Rattle.machine.specs.Chain.{bounds as bounds_of, taken};
 ghost use Rattle.machine.specs.Calls.{from_zero};
-ghost use Rattle.machine.specs.Faults.{shortage};
-ghost use Rattle.meter.specs.Metered.{asked, tally, Asks, Wants};
+ghost use Rattle.meter.specs.Metered.{tally, Asks, Wants};
 
 use crate::meter::Meter;
 use crate::question::Question;
@@ -13,25 +12,16 @@ use refusal::Refusal;
 // The largest created number.
 const LAST_NUMBER: usize = 9999;
 
-fn larger(a: usize, b: usize) -> usize
-    ensures { result ≡ max a b }
+// Refused if the need is more than the bound; if not, the most that was needed takes it in.
+fn count(need: usize, bound: usize, most: &mut usize, refusal: Refusal) -> Result<(), Refusal>
+    ensures passed { OnOk result ((need ≤ bound) × (most.new ≡ max most.old need)) }
+    ensures short { IfErr result (λ e. (bound < need) × (e ≡ refusal) × (most.new ≡ most.old)) }
 {
-    if a < b { b } else { a }
-}
-
-// What a question answers if the need does not fit.
-fn refusal_of(question: Question) -> Refusal
-    ensures { result ≡ shortage (asked question) }
-{
-    match question {
-        Question::Source => Refusal::SourceTooLong,
-        Question::Step => Refusal::OutOfSteps,
-        Question::Roll => Refusal::RollFull,
-        Question::Names => Refusal::NamesFull,
-        Question::Store => Refusal::StoreFull,
-        Question::Print => Refusal::PrintFull,
-        Question::Value => Refusal::ScanFull,
+    if need > bound {
+        return Err(refusal);
     }
+    *most = (*most).max(need);
+    Ok(())
 }
 
 impl Meter {
@@ -49,45 +39,9 @@ impl Meter {
                 print: limits.print,
                 steps: allowance,
             },
-            needs: Amounts {
-                names: 0,
-                roll: 0,
-                store: 0,
-                scan: 0,
-                print: 0,
-                steps: 0,
-            },
+            needs: Amounts::default(),
             created,
             wanted: false,
-        }
-    }
-
-    // The bound that a question compares with.
-    fn bound(&self, question: Question) -> usize
-        ensures { result ≡ amount (kind (asked question)) self.now.bounds }
-    {
-        match question {
-            Question::Source | Question::Value => self.bounds.scan,
-            Question::Step => self.bounds.steps,
-            Question::Roll => self.bounds.roll,
-            Question::Names => self.bounds.names,
-            Question::Store => self.bounds.store,
-            Question::Print => self.bounds.print,
-        }
-    }
-
-    // A need that was let pass is counted.
-    fn count(&mut self, question: Question, need: usize)
-        ensures bounds { self.new.bounds ≡ self.old.bounds }
-        ensures tally { tally self.new ≡ passed (kind (asked question)) need (tally self.old) }
-    {
-        match question {
-            Question::Source | Question::Value => self.needs.scan = larger(self.needs.scan, need),
-            Question::Step => self.needs.steps = larger(self.needs.steps, need),
-            Question::Roll => self.needs.roll = larger(self.needs.roll, need),
-            Question::Names => self.needs.names = larger(self.needs.names, need),
-            Question::Store => self.needs.store = larger(self.needs.store, need),
-            Question::Print => self.needs.print = larger(self.needs.print, need),
         }
     }
 
@@ -95,11 +49,16 @@ impl Meter {
     pub fn put(&mut self, question: Question, need: usize) -> Result<(), Refusal>
         ensures { Asks question need self.old self.new result }
     {
-        if need > self.bound(question) {
-            return Err(refusal_of(question));
+        let (bounds, needs) = (self.bounds, &mut self.needs);
+        match question {
+            Question::Source => count(need, bounds.scan, &mut needs.scan, Refusal::SourceTooLong),
+            Question::Step => count(need, bounds.steps, &mut needs.steps, Refusal::OutOfSteps),
+            Question::Roll => count(need, bounds.roll, &mut needs.roll, Refusal::RollFull),
+            Question::Names => count(need, bounds.names, &mut needs.names, Refusal::NamesFull),
+            Question::Store => count(need, bounds.store, &mut needs.store, Refusal::StoreFull),
+            Question::Print => count(need, bounds.print, &mut needs.print, Refusal::PrintFull),
+            Question::Value => count(need, bounds.scan, &mut needs.scan, Refusal::ScanFull),
         }
-        self.count(question, need);
-        Ok(())
     }
 
     // The number that a value is to have, if one is left; it is not taken yet.

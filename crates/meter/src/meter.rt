@@ -1,7 +1,7 @@
 // What an expansion may need, and what it has needed.
 use machine::Amounts;
 
-#[derive(Clone, Copy)]
+#[derive(Clone, Copy, Debug, PartialEq, Eq)]
 pub struct Meter {
     // the limits, and the allowance of steps
     pub bounds: Amounts,

@@ -1,6 +1,6 @@
 // The questions that compare a need with a bound.
 
-#[derive(Clone, Copy)]
+#[derive(Clone, Copy, Debug, PartialEq, Eq)]
 pub enum Question {
     // does the source fit the scan?
     Source,

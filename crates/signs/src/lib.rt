@@ -2,14 +2,13 @@
 
 #![tactic(auto)]
 
-ghost use Rattle.std.specs.Prelude.{◌≡◌, true, map};
+ghost use Rattle.std.specs.Prelude.{◌≡◌, true};
 ghost use Rattle.code.specs.Meaning.{named_char};
-ghost use Rattle.signs.specs.Named.{all_named};
 ghost use Rattle.signs.specs.Signs.{SignsOf};
 
 use code::Code;
 
-#[derive(Clone, Copy)]
+#[derive(Clone, Copy, Debug, PartialEq, Eq)]
 pub struct Signs {
     pub end_of_line: u8,
     pub creation_mark: u8,
@@ -36,24 +35,10 @@ fn spell<C: Code>(code: &C, named: char) -> u8
     code.byte_of(named).unwrap()
 }
 
-// Puts the byte of each named character in its place.
-fn spell_each<C: Code>(code: &C, text: &mut [u8])
-    requires { all_named text.old ≡ true }
-    ensures { text.new ≡ map C.meaning.named text.old }
-{
-    for byte in text.iter_mut() {
-        *byte = spell(code, *byte as char);
-    }
-}
-
 // The signs of a code.
 pub fn read_signs<C: Code>(code: &C) -> Signs
     ensures { SignsOf C.meaning result }
 {
-    let mut digits = *b"0123456789";
-    spell_each(code, &mut digits);
-    let mut capitals = *b"ABCDEFGHIJKLMNOPQRSTUVWXYZ";
-    spell_each(code, &mut capitals);
     Signs {
         end_of_line: code.end_of_line(),
         creation_mark: code.creation_mark(),
@@ -66,7 +51,7 @@ pub fn read_signs<C: Code>(code: &C) -> Signs
         plus: spell(code, '+'),
         minus: spell(code, '-'),
         question: spell(code, '?'),
-        digits,
-        capitals,
+        digits: b"0123456789".map(|named| spell(code, named as char)),
+        capitals: b"ABCDEFGHIJKLMNOPQRSTUVWXYZ".map(|named| spell(code, named as char)),
     }
 }

@@ -1,5 +1,5 @@
 -- What the demonstration's shelf comes to, and its text.
-use Rattle.std.proofs.Common.{◌≡◌, ℕ, Bool, true, cond, List, [], ◌++◌, is_ok, IfOk, Some, None, Ok, Err, codes, Option, Result, sym, ap, ◌∙◌}
+use Rattle.std.proofs.Common.{◌≡◌, ℕ, Bool, true, List, [], ◌++◌, Some, None, codes, Option, append_assoc, sym, ap, ◌∙◌}
 use Rattle.std.specs.Option.{option_map}
 use Rattle.refusal.specs.declared.Refusal.{Refusal}
 use Rattle.library.specs.declared.program_name.ProgramName.{ProgramName}
@@ -9,9 +9,9 @@ use Rattle.library.specs.Name.{name_bytes}
 use Rattle.library.specs.Operations.{program_of}
 use Rattle.shelf.specs.Shelved.{empty_library}
 use Rattle.exchange.specs.Stopping.{or_else, first_refusal, until_refused, ComesTo}
-use Rattle.ttm_both.specs.declared.failure.Failure.{Failure}
-use Rattle.ttm_both.specs.declared.failure.Failure.TheVariants.{Refused, NoMemory}
-use Rattle.ttm_both.specs.Failing.{FailedBy}
+use Rattle.showing.specs.declared.failure.Failure.{Failure}
+use Rattle.showing.specs.declared.failure.Failure.TheVariants.{Refused, NoMemory}
+use Rattle.showing.specs.Failing.{FailedBy}
 use Rattle.ttm_both.specs.Filling.{filling}
 use Rattle.ttm_both.specs.Demonstration.{draft, shown, verdict, heading, shown_both, ShownBoth, shown_demonstration}
 use Rattle.ttm_both.proofs.Drafts.{draft_leaves_nothing}
@@ -30,15 +30,14 @@ shelved l m program ps r new is told =
     let left : m ≡ until_refused empty_library (filling 2 draft ps) = told.left ∙ ap (λ (x : Library). until_refused x (filling 2 program ps)) new ∙ ap (λ (p : Program). until_refused empty_library (filling 2 p ps)) is in
     (answer, (λ none. ap (λ (x : Library). x.programs) left ∙ draft_leaves_nothing empty_library 2 draft ps (sym answer ∙ none)))
 
--- what stands where the last piece was added
-pub if_added : {X E A : Type 0} (P : Type 0) (r : Result X E) (x a b : A) → x ≡ cond (is_ok r) a b → (x ≡ a → P) → IfOk r (λ _. P)
-if_added P (Ok y) x a b e f = f e
-if_added P (Err y) x a b e f = tt
-
--- the text piece by piece
-pub pieces : (l m : Library) (same : Bool) (before a b c d last : List ℕ) → a ≡ before ++ shown l → b ≡ a ++ heading → c ≡ b ++ shown m → last ≡ verdict same → d ≡ c ++ last → d ≡ shown_both before l m same
+-- the text, as it is put together
+pub together : (l m : Library) (same : Bool) (before last : List ℕ) → last ≡ verdict same → before ++ (shown l ++ (heading ++ (shown m ++ last))) ≡ shown_both before l m same
 unfolding shown_both
-pieces l m same before a b c d last e f g h i = cc
+together l m same before last e =
+    let a = append_assoc before (shown l) (heading ++ (shown m ++ last)) in
+    let b = append_assoc (before ++ shown l) heading (shown m ++ last) in
+    let c = append_assoc ((before ++ shown l) ++ heading) (shown m) last in
+    cc
 
 -- the image was refused ..
 pub image_refused : (r : Refusal) (first next : Option Refusal) → Some r ≡ first → or_else first next ≡ Some r

@@ -6,18 +6,17 @@ ghost use Rattle.image.specs.Opening.{programs_of};
 ghost use Rattle.library.specs.Locked.{locked_library, lock_meaning};
 ghost use Rattle.shelf.specs.Shelved.{meaning_of as shelf_meaning, empty_library};
 ghost use Rattle.ttm_both.specs.Filling.{filling};
-ghost use Rattle.ttm_both.specs.Failing.{FailsBy};
+ghost use Rattle.showing.specs.Failing.{FailsBy};
 ghost use Rattle.ttm_both.specs.Demonstration.{draft, ShownBoth, shown_demonstration, demonstration_refusal as refusal_of_demonstration, verdict as verdict_text};
 
-use crate::failure::Failure;
 use crate::filling::fill;
-use crate::one_string::OneString;
 use code::Ascii;
 use exchange::same_library;
 use image::Image;
-use library::{Lock, ProgramName, Reader};
-use listing::push_listing;
+use library::{Lock, ProgramName, Reader, StringView, StringViews};
+use listing::Listing;
 use shelf::Shelf;
+use showing::Failure;
 use std::alloc::{AllocError, Global};
 
 // The programs of a library on a shelf, which is then locked. A program DRAFT is stored after the first two, and deleted again.
@@ -27,9 +26,11 @@ fn shelve<R: Reader>(heap: Global, from: &R) -> Result<Lock<Shelf>, Failure>
 {
     let mut shelf = Shelf::new(heap)?;
     let name = ProgramName::new(b"DRAFT").unwrap();
-    let strings = OneString {
-        name: b"DRAFT",
-        body: b"to be deleted",
+    let strings = StringViews {
+        views: &[StringView {
+            name: b"DRAFT",
+            body: b"to be deleted",
+        }],
     };
     fill(&mut shelf, from, 2, &name, &strings)?;
     Ok(Lock { inner: shelf })
@@ -49,12 +50,19 @@ fn verdict(same: bool) -> &'static str
 fn push_both(out: &mut String, image: &Image, shelf: &Lock<Shelf>) -> Result<(), AllocError>
     ensures { OnOk result (ShownBoth (string_bytes out.old) (image_meaning image.now) (lock_meaning shelf_meaning shelf.now) (string_bytes out.new)) }
 {
-    push_listing(out, &Ascii, image)?;
-    out.push_str(
-        "the same programs on a shelf, with DRAFT stored among them and deleted again, then locked:\n",
-    )?;
-    push_listing(out, &Ascii, shelf)?;
-    out.push_str(verdict(same_library(image, shelf)))
+    let listed = Listing {
+        code: &Ascii,
+        library: image,
+    };
+    let shelved = Listing {
+        code: &Ascii,
+        library: shelf,
+    };
+    let verdict = verdict(same_library(image, shelf));
+    write!(
+        out,
+        "{listed}the same programs on a shelf, with DRAFT stored among them and deleted again, then locked:\n{shelved}{verdict}"
+    )
 }
 
 // The text of the demonstration with an image in ASCII.

@@ -3,32 +3,18 @@
 
 #![tactic(auto)]
 
-mod demo;
-mod failure;
 mod show;
 
-use anyhow::anyhow;
-use demo::DEMO;
-use failure::Failure;
 use show::text_of;
+use showing::{DEMO, exit_code};
 use std::process::ExitCode;
 use std::{env, fs};
 
 fn print_image(rt: &HostRuntime, title: &str, image: &[u8]) -> anyhow::Result<()> {
-    match text_of(rt.alloc(), image) {
-        Ok(text) => {
-            let size = image.len();
-            println!(rt; "granted: {title}, {size} bytes")?;
-            print!(rt; "{text}")?;
-            Ok(())
-        }
-        Err(Failure::Refused(refusal)) => {
-            let number = refusal.number();
-            let name = refusal.name();
-            Err(anyhow!(format!(in rt.alloc(); "refused {number}: {name}")?))
-        }
-        Err(Failure::NoMemory) => Err(anyhow!("no memory")),
-    }
+    let text = text_of(rt.alloc(), image)?;
+    let size = image.len();
+    print!(rt; "granted: {title}, {size} bytes\n{text}")?;
+    Ok(())
 }
 
 fn run(rt: &HostRuntime) -> anyhow::Result<()> {
@@ -41,13 +27,7 @@ fn run(rt: &HostRuntime) -> anyhow::Result<()> {
     }
 }
 
-// An error that main returned would be printed a second time.
 fn main(rt: HostRuntime) -> ExitCode {
-    match run(&rt) {
-        Ok(()) => ExitCode::SUCCESS,
-        Err(error) => {
-            eprintln!(rt; "{error}").ok();
-            ExitCode::FAILURE
-        }
-    }
+    let done = run(&rt);
+    exit_code(&rt, done)
 }

@@ -3,13 +3,13 @@ ghost use Rattle.std.specs.Prelude.{◌≡◌, IfOk, string_bytes};
 ghost use Rattle.image.specs.Questions.{image_refusal as refusal_of_image};
 ghost use Rattle.image.specs.Opening.{programs_of, image_library};
 ghost use Rattle.listing.specs.Listing.{listing};
-ghost use Rattle.ttm_run.specs.Failing.{refused_part};
+ghost use Rattle.showing.specs.Failing.{refused_part};
 ghost use Rattle.ttm_run.specs.Showing.{shown_image, refused_image};
 
-use crate::failure::Failure;
-use code::{Ascii, Ebcdic};
+use code::{Ascii, Code, Ebcdic};
 use image::Image;
 use listing::{Glyphs, render};
+use showing::Failure;
 use std::alloc::Global;
 
 // Opens the image and lists what is granted.
@@ -29,7 +29,7 @@ pub fn text_of(heap: Global, image: &[u8]) -> Result<String, Failure>
     ensures refused { refused_part result ≡ refused_image image.now }
 {
     match image {
-        [2, ..] => show_image(heap, &Ebcdic, image),
+        [number, ..] if *number == Ebcdic.number() => show_image(heap, &Ebcdic, image),
         _ => show_image(heap, &Ascii, image),
     }
 }

@@ -1,25 +1,43 @@
-use Rattle.std.proofs.Common.{◌≡◌, ℕ, ◌-◌, ◌≤◌, List, [], ◌∷◌, ◌++◌, length, get_or, drop, Some, None, vec_items, Option, refl, ap, ◌∙◌, append_assoc, arith, length-drop, rules}
-use Rattle.std.proofs.lemmas.List.{take_all}
-use Rattle.std.specs.Option.{option_map}
-use Rattle.hex_text.specs.Hex.{digit_value, two_digits, before, unhexed}
+use Rattle.std.proofs.Common.{◌≡◌, ℕ, ◌+◌, ◌*◌, ◌/◌, List, None, length, drop, vec_items, sym, ap, ◌∙◌, arith, rules}
+use Rattle.hex_text.proofs.Exact.{reads_in_hex}
+use Rattle.hex_text.proofs.Pairs.{unhexed_pairs, from_pair, by_pairs, odd_none, at_pair, one_more, all_read}
 use Rattle.hex_text.proofs.reading.unhex.Goals as goal
 
--- a byte more is read
-one_more : (done : List ℕ) (byte : ℕ) (o : Option (List ℕ)) → option_map (λ (more : List ℕ). (done ++ byte ∷ []) ++ more) o ≡ option_map (λ (more : List ℕ). done ++ more) (before (Some byte) o)
-one_more done byte None = refl
-one_more done byte (Some more) = ap (λ (xs : List ℕ). Some xs) (append_assoc done (byte ∷ []) more)
+pub returns-in_default : goal.returns-in_default
+returns-in_default c =
+    record { bytes = sym (odd_none c.args.text.now (omega arith)); law = reads_in_hex }
 
-turn : (done left : List ℕ) (byte : ℕ) → 2 ≤ length left → Some byte ≡ two_digits (digit_value (get_or left 0 0)) (digit_value (get_or left 1 0))
-    → option_map (λ (more : List ℕ). (done ++ byte ∷ []) ++ more) (unhexed (drop 2 left)) ≡ option_map (λ (more : List ℕ). done ++ more) (unhexed left)
-turn done [] byte long is = absurd (omega arith)
-turn done (c ∷ []) byte long is = absurd (omega arith)
-turn done (high ∷ low ∷ rest) byte long is = one_more done byte (unhexed rest) ∙ ap (λ (o : Option ℕ). option_map (λ (more : List ℕ). done ++ more) (before o (unhexed rest))) is
+pub returns-in_err-bytes : goal.returns-in_err-bytes
+returns-in_err-bytes c = record { bytes = search rules; law = reads_in_hex }
 
-pub loop-left-preserved : goal.loop-left-preserved
-loop-left-preserved c =
-    let left = c.loop-left.left.now in
-    let new = c.in_ok-push.ensures.items in
-    let all = take_all (length left - 2) (drop 2 left) (omega (arith, length-drop 2 left)) in
-    let long : 2 ≤ length left = search rules in
-    let more = turn (vec_items c.loop-left.bytes) left c.in-Some.byte long c.in-Some.ensures in
-    rw (new, all) (more ∙ c.loop-left.invariant)
+pub returns-in_default-byte_of : goal.returns-in_default-byte_of
+returns-in_default-byte_of c =
+    let text = c.args.text.now in
+    let pairs = c.as_chunks.result.0.now in
+    let whole : length text ≡ length text / 2 * 2 = omega arith in
+    let read = ap unhexed_pairs c.as_chunks.ensures.front ∙ by_pairs (length text / 2) text whole in
+    record {
+      bytes = at_pair (vec_items c.loop-high.bytes) pairs c.loop-high.high-index None c.loop-high-test.true c.in_default-byte_of.ensures ∙ c.loop-high.invariant ∙ read;
+      law = reads_in_hex;
+    }
+
+pub returns-in_err-push : goal.returns-in_err-push
+returns-in_err-push c = record { bytes = search rules; law = reads_in_hex }
+
+pub loop-high-preserved : goal.loop-high-preserved
+loop-high-preserved c =
+    let done = vec_items c.loop-high.bytes in
+    let pairs = c.as_chunks.result.0.now in
+    let i = c.loop-high.high-index in
+    ap (λ (xs : List ℕ). from_pair xs pairs (i + 1)) c.in_ok-push.ensures.items ∙ one_more done c.in-Some.byte (unhexed_pairs (drop (i + 1) pairs)) ∙ at_pair done pairs i _ c.loop-high-test.true c.in-Some.ensures ∙ c.loop-high.invariant
+
+pub returns : goal.returns
+returns c =
+    let text = c.args.text.now in
+    let pairs = c.as_chunks.result.0.now in
+    let whole : length text ≡ length text / 2 * 2 = omega arith in
+    let read = ap unhexed_pairs c.as_chunks.ensures.front ∙ by_pairs (length text / 2) text whole in
+    record {
+      bytes = all_read (vec_items c.loop-high.bytes) pairs c.loop-high.high-index c.loop-high-test.false ∙ c.loop-high.invariant ∙ read;
+      law = reads_in_hex;
+    }

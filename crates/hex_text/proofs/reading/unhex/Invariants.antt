@@ -1,10 +1,6 @@
-use Rattle.std.proofs.Common.{◌≡◌, ℕ, List, ◌++◌, length, vec_items}
-use Rattle.std.specs.Option.{option_map}
-use Rattle.hex_text.specs.Hex.{unhexed}
+use Rattle.std.proofs.Common.{◌≡◌, vec_items}
+use Rattle.hex_text.proofs.Pairs.{unhexed_pairs, from_pair}
 use Rattle.hex_text.proofs.reading.unhex.Given as goal
 
-abbrev pub invariant-loop-left : goal.invariant-loop-left
-invariant-loop-left l = option_map (λ (more : List ℕ). vec_items l.bytes ++ more) (unhexed l.left) ≡ unhexed l.text
-
-abbrev pub decreases-loop-left : goal.decreases-loop-left
-decreases-loop-left l = length l.left
+abbrev pub invariant-loop-high : goal.invariant-loop-high
+invariant-loop-high l = from_pair (vec_items l.bytes) l.pairs l.high-index ≡ unhexed_pairs l.pairs

@@ -1,19 +1,21 @@
-use Rattle.std.proofs.Common.{string_bytes}
+use Rattle.std.proofs.Common.{◌≡◌, ◌++◌, OnOk, string_bytes, ◌∙◌, rules}
+use Rattle.std.proofs.lemmas.Result.{IfOk-weaker}
 use Rattle.library.specs.Locked.{lock_meaning}
 use Rattle.image.specs.Granting.{meaning_of as image_meaning}
 use Rattle.shelf.specs.Shelved.{meaning_of as shelf_meaning}
-use Rattle.ttm_both.specs.Demonstration.{heading}
-use Rattle.ttm_both.proofs.Shelving.{if_added, pieces}
+use Rattle.ttm_both.specs.Demonstration.{shown, heading, ShownBoth}
+use Rattle.ttm_both.proofs.Shelving.{together}
 use Rattle.ttm_both.proofs.demonstration.push_both.Goals as goal
 
 pub returns : goal.returns
 unfolding heading
 returns c =
-    if_added _ c.push_str-2.result _ _ _ c.push_str-2.ensures.bytes
-    (λ last. record {
-      same = c.same_library.result;
-      decides = c.same_library.ensures.same;
-      is = pieces (image_meaning c.args.image.now) (lock_meaning shelf_meaning c.args.shelf.now) c.same_library.result
-          (string_bytes c.args.out.now) (string_bytes c.push_listing.new.out) (string_bytes c.push_str.new.self) (string_bytes c.push_listing-2.new.out) (string_bytes c.push_str-2.new.self) c.verdict.result.now
-          c.in_ok-push_listing.ensures c.in_ok-push_str.ensures.bytes c.in_ok-push_listing-2.ensures c.verdict.ensures last;
-    })
+    let old = string_bytes c.args.out.now in
+    let image = image_meaning c.args.image.now in
+    let shelf = lock_meaning shelf_meaning c.args.shelf.now in
+    let last = c.verdict-verdict.result.now in
+    let all = together image shelf c.same_library.result old last c.verdict-verdict.ensures in
+    let written : OnOk c.write.result (string_bytes c.write.new.self ≡ old ++ (shown image ++ (heading ++ (shown shelf ++ last)))) = search rules in
+    let both : string_bytes c.write.new.self ≡ old ++ (shown image ++ (heading ++ (shown shelf ++ last))) → ShownBoth old image shelf (string_bytes c.write.new.self)
+    = λ is. record { same = c.same_library.result; decides = c.same_library.ensures.same; is = is ∙ all } in
+    IfOk-weaker _ _ _ (λ x. both) written

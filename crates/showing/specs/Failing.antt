@@ -1,8 +1,8 @@
 -- Why an image was not shown.
 use Rattle.std.specs.Prelude.{◌≡◌, Some, None, Ok, Err, Option, Result}
 use Rattle.refusal.specs.declared.Refusal.{Refusal}
-use Rattle.ttm_both.specs.declared.failure.Failure.{Failure}
-use Rattle.ttm_both.specs.declared.failure.Failure.TheVariants.{Refused, NoMemory}
+use Rattle.showing.specs.declared.failure.Failure.{Failure}
+use Rattle.showing.specs.declared.failure.Failure.TheVariants.{Refused, NoMemory}
 
 -- the refusal that it failed with, if it was refused
 abbrev pub refused_part : {T : Type 0} → Result T Failure → Option Refusal
