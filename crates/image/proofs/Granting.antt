@@ -1,11 +1,11 @@
 -- The definition by questions and the one by layout say the same.
-use Rattle.std.proofs.Common.{◌≡◌, ℕ, zero, suc, ◌+◌, ◌-◌, ◌*◌, ◌/◌, ◌<◌, ◌≤◌, Bool, true, false, eqb, leb, List, [], ◌∷◌, ◌++◌, map, length, get_or, take, drop, replicate, None, Option, sym, refl, ap, ◌∙◌, subst, arith}
+use Rattle.std.proofs.Common.{◌≡◌, ℕ, zero, suc, ◌+◌, ◌-◌, ◌*◌, ◌/◌, ◌<◌, ◌≤◌, Bool, true, false, eqb, leb, List, [], ◌∷◌, ◌++◌, map, length, get_or, take, drop, replicate, None, Some, Ok, Err, IfOk, Option, Result, sym, refl, ap, ◌∙◌, subst, arith}
 use Rattle.std.specs.List.{flat_map, list_all}
 use Rattle.std.specs.Simd.{first_chunks}
 use Rattle.std.proofs.lemmas.List.{append-nil, length-append, length-map, take_all, take_at, drop_at, get_or-drop, get_or-take, length-replicate, take-append-drop, length-take-le, length-drop}
 use Rattle.std.proofs.lemmas.Bool.{and_parts, and_from, eqb-true, eq-eqb, leb-true, le-leb, both_ways, lt-ltb, cond-true}
 use Rattle.code.specs.Meaning.{CodeMeaning, within}
-use Rattle.library.specs.Meaning.{Program, Lawful}
+use Rattle.library.specs.Meaning.{Program, Library, Lawful}
 use Rattle.refusal.specs.declared.Refusal.{Refusal}
 use Rattle.refusal.specs.Outcome.{kept_or}
 use Rattle.image.specs.Lines.{Line, listed, gathered}
@@ -14,6 +14,9 @@ use Rattle.image.specs.Contents.{entries, entries_of_rows, programs_of_rows, fir
 use Rattle.image.specs.Questions.{ask, well_named, adjacent, contents_refusal, complete, image_refusal}
 use Rattle.image.specs.Cutting.{IsCut}
 use Rattle.image.specs.Opening.{programs_of, image_library, Opened, LayoutIsUnique}
+use Rattle.image.specs.Granting.{programs_held, meaning_of, opened_or}
+use Rattle.image.specs.declared.granted.Image.{Image}
+use Rattle.std.specs.Result.{result_err}
 use Rattle.image.proofs.Gather.{name_of, program_of_line, name_fits, all_apart, listed_gathered, list_all-gathered, apart_gathered, lawful_from_tests, fits_from_named, apart_from_distinct, gathered_listed, filled_gathered}
 use Rattle.image.proofs.Entries.{entries-chunks, from_entry, Small, whole, small_rest, entries_of_bytes, length_entries_bytes, bytes_of_entries, whole_entries, length_entries, lines_of_texts, texts_size, texts_of_lines, entries_of_lines, programs_of_lines, length_lines, names_fit}
 
@@ -239,14 +242,14 @@ is_cut code (x ∷ y ∷ bs) rest contents texts rows n h e f g few enough c t r
     same x x' y y' xs xs' p q r = cc
 
 -- 5. So opening by the questions is opening by the layout.
-pub opened : (code : CodeMeaning) (bs : List ℕ) (r : Option Refusal) (old new : List Program) → Bytes bs → r ≡ image_refusal code bs → new ≡ kept_or r (programs_of bs) old →
-    Opened code bs r (image_library old) (image_library new)
+pub opened : (code : CodeMeaning) (bs : List ℕ) (r : Option Refusal) (old new : Library) → Bytes bs → r ≡ image_refusal code bs → new ≡ kept_or r (image_library (programs_of bs)) old →
+    Opened code bs r old new
 opened code bs r old new h e f =
-    let after = λ (x : Option Refusal). kept_or x (programs_of bs) old in
-    let held : r ≡ None → image_library new ≡ image_library (programs_of bs) = λ none. ap image_library (f ∙ ap after none) in
+    let after = λ (x : Option Refusal). kept_or x (image_library (programs_of bs)) old in
+    let held : r ≡ None → new ≡ image_library (programs_of bs) = λ none. f ∙ ap after none in
     record {
       first_no = e;
-      kept = λ s t. ap image_library (f ∙ ap after t);
+      kept = λ s t. f ∙ ap after t;
       held = held;
       granted = λ ps rules same.
           let laid = laid_out_is_granted code ps rules in
@@ -256,3 +259,8 @@ opened code bs r old new h e f =
           let granted = granted_is_laid_out code bs h (sym e ∙ none) in
           (programs_of bs, granted.0, sym granted.1, held none);
     }
+
+-- the same, of what is told of the answer
+pub opened_by : (code : CodeMeaning) (bs : List ℕ) (r : Result Image Refusal) (before : Library) → Bytes bs → result_err r ≡ image_refusal code bs → IfOk r (λ i. programs_held i ≡ programs_of bs) → Opened code bs (result_err r) before (opened_or before r)
+opened_by code bs (Ok i) before h e f = opened code bs None before (meaning_of i) h e (ap image_library (f))
+opened_by code bs (Err x) before h e f = opened code bs (Some x) before before h e refl

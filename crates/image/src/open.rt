@@ -1,10 +1,10 @@
 // Opening an image.
-ghost use Rattle.std.specs.Prelude.{◌≡◌, []};
+ghost use Rattle.std.specs.Prelude.{◌≡◌, [], IfOk};
 ghost use Rattle.std.specs.Result.{result_err};
+ghost use Rattle.library.specs.Meaning.{Library};
 ghost use Rattle.image.specs.Questions.{image_refusal as refusal_of_image};
 ghost use Rattle.image.specs.Opening.{programs_of, image_library, Opened, LayoutIsUnique};
-ghost use Rattle.refusal.specs.Outcome.{kept_or};
-ghost use Rattle.image.specs.Granting.{programs_held, meaning_of};
+ghost use Rattle.image.specs.Granting.{programs_held, meaning_of, opened_or};
 
 use crate::contents::Contents;
 use crate::granted::Image;
@@ -12,7 +12,7 @@ use code::Code;
 use refusal::Refusal;
 
 impl<'a> Image<'a> {
-    // An image of no programs: what an image is before the first open.
+    // An image of no programs.
     pub fn empty() -> Image<'a>
         ensures { meaning_of result ≡ image_library [] }
     {
@@ -25,21 +25,20 @@ impl<'a> Image<'a> {
     }
 
     // Opens the bytes of an image: puts the questions to them in their order, and holds their programs if none says no.
-    // Refused, it is as before.
-    pub fn open<C: Code>(&mut self, code: &C, image: &'a [u8]) -> Result<(), Refusal>
-        ensures opened { Opened C.meaning image.now (result_err result) (meaning_of self.old) (meaning_of self.new) }
+    // Whatever library the host had, it has the image's now, or still that one.
+    pub fn open<C: Code>(code: &C, image: &'a [u8]) -> Result<Image<'a>, Refusal>
+        ensures opened { (before : Library) → Opened C.meaning image.now (result_err result) before (opened_or before result) }
         ensures unique { LayoutIsUnique }
     {
-        self.admit(code, image)
+        Image::admit(code, image)
     }
 
-    fn admit<C: Code>(&mut self, code: &C, image: &'a [u8]) -> Result<(), Refusal>
+    fn admit<C: Code>(code: &C, image: &'a [u8]) -> Result<Image<'a>, Refusal>
         ensures refusal { result_err result ≡ refusal_of_image C.meaning image.now }
-        ensures after { programs_held self.new ≡ kept_or (result_err result) (programs_of image.now) (programs_held self.old) }
+        ensures held { IfOk result (λ opened. programs_held opened ≡ programs_of image.now) }
     {
         let contents = Contents::cut(code, image)?;
         contents.check(code)?;
-        *self = Image { contents };
-        Ok(())
+        Ok(Image { contents })
     }
 }

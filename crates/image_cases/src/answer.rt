@@ -33,9 +33,8 @@ fn count_strings<R: Reader>(library: &R) -> u128
 pub fn answer<C: Code>(heap: Global, code: &C, bytes: &[u8]) -> Result<String, AllocError>
     ensures { IfOk result (λ text. string_bytes text ≡ answer_to_image C.meaning bytes.now) }
 {
-    let mut image = Image::empty();
-    match image.open(code, bytes) {
-        Ok(()) => {
+    match Image::open(code, bytes) {
+        Ok(image) => {
             let programs = image.programs();
             let strings = count_strings(&image);
             format!(in heap; "granted:{programs}:{strings}")

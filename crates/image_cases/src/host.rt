@@ -21,8 +21,7 @@ pub fn find_and_clear<C: Code>(
     ensures found { IfOk result (λ k. k ≡ place name.now (programs_of buffer.old)) }
     ensures cleared { buffer.new ≡ kept_or (result_err result) (replicate (length buffer.old) 0) buffer.old }
 {
-    let mut image = Image::empty();
-    image.open(code, buffer)?;
+    let image = Image::open(code, buffer)?;
     let found = find_program(&image, name);
     buffer.fill(0);
     Ok(found)

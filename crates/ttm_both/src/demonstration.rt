@@ -70,8 +70,7 @@ pub fn demonstrate(heap: Global, image: &[u8]) -> Result<String, Failure>
     ensures shown { IfOk result (λ s. string_bytes s ≡ shown_demonstration (programs_of image.now)) }
     ensures refused { FailsBy result (refusal_of_demonstration image.now) }
 {
-    let mut opened = Image::empty();
-    opened.open(&Ascii, image)?;
+    let opened = Image::open(&Ascii, image)?;
     let shelf = shelve(heap, &opened)?;
     let mut text = String::new(heap);
     push_both(&mut text, &opened, &shelf)?;

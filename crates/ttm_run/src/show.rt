@@ -17,8 +17,7 @@ fn show_image<C: Glyphs>(heap: Global, code: &C, image: &[u8]) -> Result<String,
     ensures shown { IfOk result (λ s. string_bytes s ≡ listing C.Code.meaning C.Glyphs.title C.Glyphs.glyph (image_library (programs_of image.now))) }
     ensures refused { refused_part result ≡ refusal_of_image C.Code.meaning image.now }
 {
-    let mut opened = Image::empty();
-    opened.open(code, image)?;
+    let opened = Image::open(code, image)?;
     let text = render(heap, code, &opened)?;
     Ok(text)
 }

@@ -3,8 +3,8 @@ use Rattle.image.specs.Contents.{entries_of_rows}
 use Rattle.image.proofs.Granting.{sound_contents, lawful_contents}
 use Rattle.image.proofs.granted.Image.admit.Goals as goal
 
-pub invariant_of-self : goal.invariant_of-self
-invariant_of-self g c =
+pub invariant_of-result : goal.invariant_of-result
+invariant_of-result g c =
     let contents = c.in_ok-contents.contents in
     let es = entries_of_rows contents.entries.now in
     let sound = sound_contents g.C.Code.meaning es contents.texts.now (sym c.in_ok-check.ensures) in
