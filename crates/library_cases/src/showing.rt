@@ -1,13 +1,12 @@
 // Answers in words.
-ghost use Rattle.std.specs.Prelude.{[], Some};
-ghost use Rattle.std.specs.Option.{option_map_or};
+ghost use Rattle.std.specs.Prelude.{Some};
+ghost use Rattle.std.specs.List.{flat_map};
 ghost use Rattle.std.specs.Result.{result_err};
-ghost use Rattle.library.specs.Meaning.{program_at};
-ghost use Rattle.library.specs.Views.{string_viewed};
+ghost use Rattle.library.specs.Views.{string_viewed, program_viewed};
 ghost use Rattle.library_cases.specs.Showing.{shown_bytes, shown_string, shown_program, shown_library, shown_outcome, shown_place};
 
 use hex_text::Hex;
-use library::{Reader, Space, StringView};
+use library::{ProgramView, Reader, Source, Space, StringView, each_program, each_string};
 use refusal::Refusal;
 use std::fmt;
 
@@ -71,28 +70,33 @@ impl fmt::Display for ShownString<'_> {
     }
 }
 
-// A program with its strings; past the last program, nothing.
+// The strings of a program in order.
 #[derive(Clone, Copy)]
-struct ShownProgram<'a, R> {
-    library: &'a R,
-    program: usize,
-}
+struct ShownStrings<'a, S>(&'a S);
 
-impl<R: Reader> fmt::Display for ShownProgram<'_, R> {
-    ghost output = { λ s. Some (option_map_or shown_program (program_at (R.Reader.meaning s.library.now).programs s.program) []) };
+impl<S: Source> fmt::Display for ShownStrings<'_, S> {
+    ghost output = { λ s. Some (flat_map shown_string (S.Source.strings s.0.now)) };
 
     fn fmt<W: fmt::Write>(&self, f: &mut fmt::Formatter<W>) -> fmt::Result {
-        let ShownProgram { library, program } = *self;
-        let (Some(name), Some(count)) = (library.name(program), library.strings(program)) else {
-            return Ok(());
-        };
-        write!(f, " {}:", ShownBytes(name))?;
-        for string in 0..count {
-            if let Some(string) = library.string(program, string) {
-                write!(f, "{}", ShownString(string))?;
-            }
+        for string in each_string(self.0) {
+            write!(f, "{}", ShownString(string))?;
         }
         Ok(())
+    }
+}
+
+// A program: its name and its strings.
+#[derive(Clone, Copy)]
+struct ShownProgram<'a, R>(ProgramView<'a, R>);
+
+impl<R: Reader> fmt::Display for ShownProgram<'_, R> {
+    ghost output = { λ s. Some (shown_program (program_viewed R.Reader.meaning s.0)) };
+
+    #[tactic(auto, unfolding(crate::specs::Showing::shown_program))]
+    fn fmt<W: fmt::Write>(&self, f: &mut fmt::Formatter<W>) -> fmt::Result {
+        let name = ShownBytes(self.0.name);
+        let strings = ShownStrings(&self.0);
+        write!(f, " {name}:{strings}")
     }
 }
 
@@ -112,8 +116,8 @@ impl<R: Reader> fmt::Display for ShownLibrary<'_, R> {
             bytes,
         } = library.space();
         write!(f, "locked {locked} left {programs} {strings} {bytes}")?;
-        for program in 0..library.programs() {
-            write!(f, "{}", ShownProgram { library, program })?;
+        for program in each_program(library) {
+            write!(f, "{}", ShownProgram(program))?;
         }
         Ok(())
     }

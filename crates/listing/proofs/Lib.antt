@@ -1,3 +1,3 @@
-pub mod OneMore
+pub mod EachShown
 pub mod Reading
 pub mod Lines

@@ -1,14 +1,12 @@
 // Strings and programs as text.
-ghost use Rattle.std.specs.Prelude.{[], Some};
-ghost use Rattle.std.specs.Option.{option_map_or};
+ghost use Rattle.std.specs.Prelude.{Some};
 ghost use Rattle.std.specs.List.{flat_map};
-ghost use Rattle.library.specs.Meaning.{program_at};
-ghost use Rattle.library.specs.Views.{string_viewed};
+ghost use Rattle.library.specs.Views.{string_viewed, program_viewed};
 ghost use Rattle.listing.specs.Listing.{shown_string, shown_program};
 
 use crate::glyphs::Glyphs;
 use crate::text::ShownText;
-use library::{Reader, StringView};
+use library::{ProgramView, Reader, Source, StringView, each_program, each_string};
 use std::fmt;
 
 // A string: its name, the length of its body, and its body.
@@ -32,34 +30,48 @@ impl<C: Glyphs> fmt::Display for ShownString<'_, C> {
     }
 }
 
-// A program with its strings; past the last program, nothing.
+// The strings of a program in order.
+#[derive(Clone, Copy)]
+struct ShownStrings<'a, C, S> {
+    code: &'a C,
+    strings: &'a S,
+}
+
+impl<C: Glyphs, S: Source> fmt::Display for ShownStrings<'_, C, S> {
+    ghost output = { λ s. Some (flat_map (shown_string C.Code.meaning C.Glyphs.glyph) (S.Source.strings s.strings.now)) };
+
+    fn fmt<W: fmt::Write>(&self, f: &mut fmt::Formatter<W>) -> fmt::Result {
+        let code = self.code;
+        for string in each_string(self.strings) {
+            write!(f, "{}", ShownString { code, string })?;
+        }
+        Ok(())
+    }
+}
+
+// A program: its name, how many strings it has, and these.
 #[derive(Clone, Copy)]
 struct ShownProgram<'a, C, R> {
     code: &'a C,
-    library: &'a R,
-    program: usize,
+    program: ProgramView<'a, R>,
 }
 
 impl<C: Glyphs, R: Reader> fmt::Display for ShownProgram<'_, C, R> {
-    ghost output = { λ s. Some (option_map_or (shown_program C.Code.meaning C.Glyphs.glyph) (program_at (R.Reader.meaning s.library.now).programs s.program) []) };
+    ghost output = { λ s. Some (shown_program C.Code.meaning C.Glyphs.glyph (program_viewed R.Reader.meaning s.program)) };
 
+    #[tactic(auto, unfolding(crate::specs::Listing::shown_program))]
     fn fmt<W: fmt::Write>(&self, f: &mut fmt::Formatter<W>) -> fmt::Result {
-        let ShownProgram {
+        let code = self.code;
+        let name = ShownText {
             code,
-            library,
-            program,
-        } = *self;
-        let (Some(name), Some(count)) = (library.name(program), library.strings(program)) else {
-            return Ok(());
+            text: self.program.name,
         };
-        let name = ShownText { code, text: name };
-        writeln!(f, "program {name}, strings: {count}")?;
-        for string in 0..count {
-            if let Some(string) = library.string(program, string) {
-                write!(f, "{}", ShownString { code, string })?;
-            }
-        }
-        Ok(())
+        let count = self.program.count();
+        let strings = ShownStrings {
+            code,
+            strings: &self.program,
+        };
+        write!(f, "program {name}, strings: {count}\n{strings}")
     }
 }
 
@@ -75,13 +87,8 @@ impl<C: Glyphs, R: Reader> fmt::Display for ShownPrograms<'_, C, R> {
 
     fn fmt<W: fmt::Write>(&self, f: &mut fmt::Formatter<W>) -> fmt::Result {
         let ShownPrograms { code, library } = *self;
-        for program in 0..library.programs() {
-            let shown = ShownProgram {
-                code,
-                library,
-                program,
-            };
-            write!(f, "{shown}")?;
+        for program in each_program(library) {
+            write!(f, "{}", ShownProgram { code, program })?;
         }
         Ok(())
     }
