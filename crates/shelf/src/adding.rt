@@ -22,14 +22,16 @@ fn room_after<S: Source>(strings: &S, room: usize) -> Option<usize>
     Some(left)
 }
 
-// Adds bytes for which there is memory.
+// Adds bytes for which there is memory, each by a push that cannot allocate.
 fn append(bytes: &mut Vec<u8>, more: &[u8])
     requires { vec_len bytes.old + length more.now ≤ vec_capacity bytes.old }
     ensures items { bytes.new.items ≡ bytes.old.items ++ more.now }
     ensures len { vec_len bytes.new ≡ vec_len bytes.old + length more.now }
-    ensures capacity { vec_capacity bytes.old ≤ vec_capacity bytes.new }
+    ensures capacity { vec_capacity bytes.new ≡ vec_capacity bytes.old }
 {
-    bytes.extend_from_slice(more).unwrap();
+    for byte in more {
+        bytes.push_reserved(*byte);
+    }
 }
 
 // Adds the rows and the bytes of strings.
@@ -39,7 +41,7 @@ fn add_strings<S: Source>(strings: &S, rows: &mut Vec<StringRow>, bytes: &mut Ve
     ensures rows { rows.new.items ≡ rows.old.items ++ map row_of (S.Source.strings strings.now) }
     ensures bytes { bytes.new.items ≡ bytes.old.items ++ flat_map bytes_of (S.Source.strings strings.now) }
     ensures lens { (vec_len rows.new ≡ vec_len rows.old + length (S.Source.strings strings.now)) × (vec_len bytes.new ≡ vec_len bytes.old + strings_bytes (S.Source.strings strings.now)) }
-    ensures capacity { (vec_capacity rows.old ≤ vec_capacity rows.new) × (vec_capacity bytes.old ≤ vec_capacity bytes.new) }
+    ensures capacity { (vec_capacity rows.new ≡ vec_capacity rows.old) × (vec_capacity bytes.new ≡ vec_capacity bytes.old) }
 {
     for text in each_string(strings) {
         append(bytes, text.name);
