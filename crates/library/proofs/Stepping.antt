@@ -4,7 +4,6 @@ use Rattle.std.specs.Option.{option_map}
 use Rattle.std.specs.List.{slice_get}
 use Rattle.std.proofs.lemmas.List.{drop_more}
 use Rattle.std.proofs.lemmas.Option.{get_or_from_slice_get, slice_get_cases, slice_get_within}
-use Rattle.library.specs.Meaning.{Program, name_at, program_at, strings_of}
 
 -- the element at place i comes first of those that are left there
 pub first_left : {X : Type 0} (xs : List X) (i : ℕ) (x : X) → slice_get xs i ≡ Some x → drop i xs ≡ x ∷ drop (i + 1) xs
@@ -17,11 +16,3 @@ pub stepped : {A B : Type 0} (view : A → B) (xs : List B) (i : ℕ) (r : Optio
 stepped view xs i (Some x) e h = first_left xs i (view x) (sym e)
 stepped view xs i None e h =
     absurd (⊎_elim (λ there. let found = there.2 in cc) (λ past. omega (arith, past.0)) (slice_get_cases xs i).1)
-
--- the program of that name and of the strings at place k is the one there
-pub named_program : (ps : List Program) (k : ℕ) (n : List ℕ) → Some n ≡ name_at ps k → program_at ps k ≡ Some (record { name = n; strings = strings_of (program_at ps k) })
-named_program ps k n e = go (program_at ps k) e
-  where
-    go : (o : Option Program) → Some n ≡ option_map (λ (q : Program). q.name) o → o ≡ Some (record { name = n; strings = strings_of o })
-    go None e = cc
-    go (Some p) e = let same : p.name ≡ n = cc in ap (λ (m : List ℕ). Some (record { name = m; strings = p.strings })) same

@@ -23,7 +23,7 @@ pub use lending::Lends;
 pub use lock::Lock;
 pub use lookup::find_program;
 pub use program_name::ProgramName;
-pub use program_view::ProgramView;
+pub use program_view::{ProgramView, view_program};
 pub use reader::Reader;
 pub use request::{Request, carry_out, carry_out_all};
 pub use space::Space;

@@ -1,5 +1,8 @@
 // A program of a library, where it lies.
+ghost use Rattle.std.specs.Prelude.{◌≡◌};
+ghost use Rattle.std.specs.Option.{option_map};
 ghost use Rattle.library.specs.Meaning.{program_at, strings_of};
+ghost use Rattle.library.specs.Views.{program_viewed};
 
 use crate::reader::Reader;
 use crate::string_view::StringView;
@@ -11,6 +14,18 @@ pub struct ProgramView<'a, R> {
     pub name: &'a [u8],
     pub library: &'a R,
     pub program: usize,
+}
+
+// The program at that place; `None` past the last one.
+pub fn view_program<R: Reader>(library: &R, program: usize) -> Option<ProgramView<'_, R>>
+    ensures { option_map (program_viewed R.Reader.meaning) result ≡ program_at (R.Reader.meaning library.now).programs program }
+{
+    let name = library.name(program)?;
+    Some(ProgramView {
+        name,
+        library,
+        program,
+    })
 }
 
 // Its strings are handed over to be stored where they lie; past the last program there are none.

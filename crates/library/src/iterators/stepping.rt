@@ -5,7 +5,7 @@ ghost use Rattle.library.specs.Views.{string_viewed, program_viewed};
 ghost use Rattle.library.specs.Iterators.{strings_left, programs_left};
 
 use super::{Programs, Strings};
-use crate::program_view::ProgramView;
+use crate::program_view::{ProgramView, view_program};
 use crate::reader::Reader;
 use crate::string_view::StringView;
 use crate::strings::Source;
@@ -60,14 +60,8 @@ impl<'a, R: Reader> Iterator for Programs<'a, R> {
         if self.next >= self.end {
             return None;
         }
-        let program = self.next;
-        let library = self.library;
+        let program = view_program(self.library, self.next);
         self.next += 1;
-        let name = library.name(program)?;
-        Some(ProgramView {
-            name,
-            library,
-            program,
-        })
+        program
     }
 }
