@@ -1,11 +1,10 @@
 -- The programs of a library as stores in another, one by one.
-use Rattle.std.proofs.Common.{◌≡◌, ℕ, zero, suc, ◌+◌, ◌-◌, ◌<◌, ◌≤◌, Bool, true, false, cond, Ok, Err, List, [], ◌∷◌, ◌++◌, take, drop, Some, None, Option, sym, refl, ap, ◌∙◌, append_assoc, add-one, arith}
-use Rattle.std.specs.Option.{option_map}
+use Rattle.std.proofs.Common.{◌≡◌, ℕ, zero, suc, ◌+◌, ◌-◌, ◌<◌, ◌≤◌, Bool, true, false, cond, Ok, Err, List, [], ◌∷◌, ◌++◌, take, drop, Some, None, Option, sym, refl, ap, ◌∙◌, append_assoc, add-one, subst, arith}
 use Rattle.std.proofs.lemmas.List.{append-nil}
 use Rattle.std.proofs.lemmas.Bool.Decides.{nat_tests}
 use Rattle.refusal.specs.Outcome.{kept_or}
 use Rattle.refusal.specs.declared.Refusal.{Refusal}
-use Rattle.library.specs.Meaning.{Program, Library, Lawful, NameLength, name_at, program_at, strings_of}
+use Rattle.library.specs.Meaning.{Program, Library, Lawful, NameLength, name_at, program_at}
 use Rattle.library.specs.Keeping.{store_refusal, with_program}
 use Rattle.library.specs.Name.{fits_name}
 use Rattle.exchange.specs.Stopping.{or_else, first_refusal, until_refused, ComesTo}
@@ -31,16 +30,15 @@ fit true made name refusal is = cc
 fit false made name refusal is = cc
 
 -- that program stored, by its name and its strings
-pub stored_one : (l m : Library) (o : Option Program) (n name : List ℕ) (r : Option Refusal) → n ≡ name → Some name ≡ option_map (λ (p : Program). p.name) o → r ≡ store_refusal l (record { name = n; strings = strings_of o }) → m ≡ kept_or r (with_program l (record { name = n; strings = strings_of o })) l → ComesTo l (store_of o) r m
-stored_one l m None n name r made named refused after = cc
-stored_one l m (Some p) n name r made named refused after =
-    let same : n ≡ p.name = cc in
+pub stored_one : (l m : Library) (o : Option Program) (p : Program) (n : List ℕ) (r : Option Refusal) → n ≡ p.name → Some p ≡ o → r ≡ store_refusal l (record { name = n; strings = p.strings }) → m ≡ kept_or r (with_program l (record { name = n; strings = p.strings })) l → ComesTo l (store_of o) r m
+stored_one l m o p n r same is refused after =
     let refusal : r ≡ store_refusal l p = refused ∙ ap (λ (x : List ℕ). store_refusal l (record { name = x; strings = p.strings })) same in
-    record {
+    subst (λ (x : Option Program). ComesTo l (store_of x) r m) is
+    (record {
       refusal = refusal ∙ alone (store_refusal l p);
       left = after ∙ ap (λ (x : Option Refusal). kept_or x (with_program l (record { name = n; strings = p.strings })) l) refusal
           ∙ ap (λ (x : List ℕ). kept_or (store_refusal l p) (with_program l (record { name = x; strings = p.strings })) l) same;
-    }
+    })
   where
     alone : (a : Option Refusal) → a ≡ or_else a None
     alone None = refl

@@ -1,3 +1,2 @@
-pub mod Same
 pub mod Stopping
 pub mod InTurn

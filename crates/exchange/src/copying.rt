@@ -4,8 +4,7 @@ ghost use Rattle.library.specs.Meaning.{program_at};
 ghost use Rattle.exchange.specs.Stopping.{ComesTo};
 ghost use Rattle.exchange.specs.Copying.{store_of, stores, between, StoredInOrder};
 
-use crate::program_strings::ProgramStrings;
-use library::{Keeper, ProgramName, Reader, Source};
+use library::{Keeper, ProgramName, Reader, view_program};
 use refusal::Refusal;
 
 // Stores the program at that place of `from`; past the last one, nothing.
@@ -16,15 +15,11 @@ fn store_program<R: Reader, K: Keeper>(
 ) -> Result<(), Refusal>
     ensures { ComesTo (K.Reader.meaning library.old) (store_of (program_at (R.Reader.meaning from.now).programs program)) (result_err result) (K.Reader.meaning library.new) }
 {
-    let Some(bytes) = from.name(program) else {
+    let Some(program) = view_program(from, program) else {
         return Ok(());
     };
-    let name = ProgramName::try_from(bytes)?;
-    let strings = ProgramStrings {
-        library: from,
-        program,
-    };
-    library.store(&name, &strings)
+    let name = ProgramName::try_from(program.name)?;
+    library.store(&name, &program)
 }
 
 // Stores the programs of `from` at `first` and after it, and before `end`, in their order, up to the first that is refused.

@@ -5,9 +5,7 @@
 mod agreement;
 mod compare;
 mod copying;
-mod program_strings;
 
 pub use agreement::same_library;
 pub use compare::same_programs;
 pub use copying::store_programs;
-pub use program_strings::ProgramStrings;
