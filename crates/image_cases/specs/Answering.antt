@@ -1,15 +1,11 @@
 -- What open answers to an image, in the words of the table.
-use Rattle.std.specs.Prelude.{ℕ, List, ◌++◌, length, Some, None, codes, decimal, sum_by, Option}
+use Rattle.std.specs.Prelude.{ℕ, List, ◌++◌, length, Some, None, codes, decimal, Option}
 use Rattle.code.specs.Meaning.{CodeMeaning}
 use Rattle.refusal.specs.declared.Refusal.{Refusal}
 use Rattle.refusal.specs.Numbers.{number_of}
-use Rattle.library.specs.Meaning.{Program}
+use Rattle.library.specs.Meaning.{Program, string_count}
 use Rattle.image.specs.Questions.{image_refusal}
 use Rattle.image.specs.Opening.{programs_of}
-
--- how many strings the programs have together
-abbrev pub string_count : List Program → ℕ
-string_count ps = sum_by (λ (p : Program). length p.strings) ps
 
 -- the refusal's number, or granted, with the counts of programs and of their strings
 abbrev pub answer_of : Option Refusal → List Program → List ℕ

@@ -1,5 +1,5 @@
 -- What a library of programs means: its programs in order, the space left, and whether it is locked.
-use Rattle.std.specs.Prelude.{◌≡◌, ℕ, ◌+◌, ◌≤◌, Bool, cond, List, [], ◌∷◌, length, Some, None, Option}
+use Rattle.std.specs.Prelude.{sum_by, ◌≡◌, ℕ, ◌+◌, ◌≤◌, Bool, cond, List, [], ◌∷◌, length, Some, None, Option}
 use Rattle.std.specs.Option.{option_map}
 use Rattle.std.specs.Str.{bytes_eq}
 use Rattle.std.specs.List.{slice_get}
@@ -34,6 +34,10 @@ strings_of (Some p) = p.strings
 
 abbrev pub string_at : List Program → ℕ → ℕ → Option NamedString
 string_at ps p s = slice_get (strings_of (program_at ps p)) s
+
+-- how many strings the programs have together
+abbrev pub string_count : List Program → ℕ
+string_count ps = sum_by (λ (p : Program). length p.strings) ps
 
 -- the name of program p
 abbrev pub name_at : List Program → ℕ → Option (List ℕ)

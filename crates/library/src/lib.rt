@@ -2,6 +2,7 @@
 
 #![tactic(auto)]
 
+mod counting;
 mod iterators;
 mod keeper;
 mod lending;
@@ -17,6 +18,7 @@ mod string_view;
 mod strings;
 mod using;
 
+pub use counting::count_strings;
 pub use iterators::{Programs, Strings, each_program, each_string};
 pub use keeper::Keeper;
 pub use lending::Lends;

@@ -1,3 +1,2 @@
 pub mod EachShown
-pub mod Reading
 pub mod Lines

@@ -1,9 +1,9 @@
 -- The lines of the head as formats give them: each part before all that follow.
 use Rattle.std.proofs.Common.{◌≡◌, ℕ, Bool, cond, List, ◌++◌, length, codes, decimal, append_assoc}
 use Rattle.code.specs.Meaning.{CodeMeaning}
-use Rattle.library.specs.Meaning.{Library, Program}
+use Rattle.library.specs.Meaning.{Library, Program, string_count}
 use Rattle.library.specs.declared.space.Space.{Space}
-use Rattle.listing.specs.Listing.{head, code_line, count_lines, lock_line, space_line, string_count}
+use Rattle.listing.specs.Listing.{head, code_line, count_lines, lock_line, space_line}
 
 pub code_line_is : (number : ℕ) (title : List ℕ) → codes "code: " ++ (decimal number ++ (codes " (" ++ (title ++ codes ")\n"))) ≡ code_line number title
 unfolding code_line

@@ -1,8 +1,8 @@
 -- A library of programs as readable text. Assumes nothing.
-use Rattle.std.specs.Prelude.{ℕ, ◌+◌, ◌/◌, ◌%◌, Bool, cond, List, [], ◌∷◌, ◌++◌, length, Some, None, codes, decimal, sum_by, Option, ◌==◌, nat_lt}
+use Rattle.std.specs.Prelude.{ℕ, ◌+◌, ◌/◌, ◌%◌, Bool, cond, List, [], ◌∷◌, ◌++◌, length, Some, None, codes, decimal, Option, ◌==◌, nat_lt}
 use Rattle.std.specs.List.{flat_map}
 use Rattle.code.specs.Meaning.{CodeMeaning}
-use Rattle.library.specs.Meaning.{Library, Program, NamedString}
+use Rattle.library.specs.Meaning.{Library, Program, NamedString, string_count}
 use Rattle.library.specs.declared.space.Space.{Space}
 
 -- A byte.
@@ -51,10 +51,6 @@ shown_program code glyph p =
     ++ flat_map (shown_string code glyph) p.strings
 
 -- The library.
-
--- how many strings the programs have together
-abbrev pub string_count : List Program → ℕ
-string_count ps = sum_by (λ (p : Program). length p.strings) ps
 
 unfoldable pub code_line : ℕ → List ℕ → List ℕ
 code_line number title = codes "code: " ++ decimal number ++ codes " (" ++ title ++ codes ")\n"

@@ -1,21 +1,10 @@
 // The lines before the programs.
 ghost use Rattle.std.specs.Prelude.{◌≡◌, if◌then◌else◌, Some, codes};
-ghost use Rattle.listing.specs.Listing.{head, string_count};
+ghost use Rattle.listing.specs.Listing.{head};
 
 use crate::glyphs::Glyphs;
-use library::{Reader, Space};
+use library::{Reader, Space, count_strings};
 use std::fmt;
-
-// How many strings all programs have together. The sum may pass a `usize`.
-fn count_strings<R: Reader>(library: &R) -> u128
-    ensures { result ≡ string_count (R.Reader.meaning library.now).programs }
-{
-    let mut count = 0;
-    for program in 0..library.programs() {
-        count += library.strings(program).unwrap_or(0) as u128;
-    }
-    count
-}
 
 fn yes_or_no(answer: bool) -> &'static str
     ensures { result.now ≡ (if answer then codes "yes" else codes "no") }

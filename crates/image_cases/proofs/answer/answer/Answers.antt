@@ -1,8 +1,7 @@
 use Rattle.std.proofs.Common.{[], length, refl, ap, ◌∙◌}
 use Rattle.std.proofs.lemmas.Result.{IfOk-weaker}
-use Rattle.library.specs.Meaning.{Library}
+use Rattle.library.specs.Meaning.{Library, string_count}
 use Rattle.image.specs.Opening.{programs_of, image_library}
-use Rattle.image_cases.specs.Answering.{string_count}
 use Rattle.image_cases.proofs.Counting.{granted}
 use Rattle.image_cases.proofs.answer.answer.Goals as goal
 
