@@ -5,20 +5,19 @@ mod stepping;
 
 use crate::reader::Reader;
 use crate::strings::Source;
+use std::ops::Range;
 pub use stepping::{each_program, each_string};
 
 #[derive(Drop)]
 pub struct Strings<'a, S: Source> {
     source: &'a S,
-    next: usize,
-    end: usize,
-    ghost counted: { end ≡ length (S.Source.strings source.now) },
+    places: Range<usize>,
+    ghost counted: { places.end ≡ length (S.Source.strings source.now) },
 }
 
 #[derive(Drop)]
 pub struct Programs<'a, R: Reader> {
     library: &'a R,
-    next: usize,
-    end: usize,
-    ghost counted: { end ≡ length (R.Reader.meaning library.now).programs },
+    places: Range<usize>,
+    ghost counted: { places.end ≡ length (R.Reader.meaning library.now).programs },
 }

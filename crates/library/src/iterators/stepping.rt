@@ -16,8 +16,7 @@ pub fn each_string<S: Source>(source: &S) -> Strings<'_, S>
 {
     Strings {
         source,
-        next: 0,
-        end: source.count(),
+        places: 0..source.count(),
     }
 }
 
@@ -29,12 +28,7 @@ impl<'a, S: Source> Iterator for Strings<'a, S> {
     ghost remaining = { λ s. at_most (length (strings_left s)) };
 
     fn next(&mut self) -> Option<StringView<'a>> {
-        if self.next >= self.end {
-            return None;
-        }
-        let string = self.source.string(self.next);
-        self.next += 1;
-        string
+        self.source.string(self.places.next()?)
     }
 }
 
@@ -44,8 +38,7 @@ pub fn each_program<R: Reader>(library: &R) -> Programs<'_, R>
 {
     Programs {
         library,
-        next: 0,
-        end: library.programs(),
+        places: 0..library.programs(),
     }
 }
 
@@ -57,11 +50,6 @@ impl<'a, R: Reader> Iterator for Programs<'a, R> {
     ghost remaining = { λ p. at_most (length (programs_left p)) };
 
     fn next(&mut self) -> Option<ProgramView<'a, R>> {
-        if self.next >= self.end {
-            return None;
-        }
-        let program = view_program(self.library, self.next);
-        self.next += 1;
-        program
+        view_program(self.library, self.places.next()?)
     }
 }

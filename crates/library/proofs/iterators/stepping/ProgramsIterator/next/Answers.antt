@@ -1,4 +1,3 @@
-use Rattle.std.proofs.Common.{arith}
 use Rattle.library.specs.Views.{program_viewed}
 use Rattle.library.proofs.Stepping.{stepped}
 use Rattle.library.proofs.iterators.stepping.ProgramsIterator.next.Goals as goal
@@ -6,5 +5,5 @@ use Rattle.library.proofs.iterators.stepping.ProgramsIterator.next.Goals as goal
 pub returns-clause-steps : goal.returns-clause-steps
 returns-clause-steps g c =
     let here = c.args.self.now in
-    let all = (g.R.Reader.meaning here.library.now).programs in
-    stepped (program_viewed g.R.Reader.meaning) all here.next c.view_program-program.result c.view_program-program.ensures (omega (arith, c.if-self.false, here.counted))
+    let step = c.in_ok-next.ensures.steps.1 in
+    stepped (program_viewed g.R.Reader.meaning) ((g.R.Reader.meaning here.library.now).programs) here.places.start c.in_ok-next.field-0 c.next.new.self.start here.places.end c.view_program.result c.view_program.ensures here.counted step.0 step.1 step.2

@@ -1,4 +1,3 @@
-use Rattle.std.proofs.Common.{arith}
 use Rattle.library.specs.Views.{string_viewed}
 use Rattle.library.proofs.Stepping.{stepped}
 use Rattle.library.proofs.iterators.stepping.StringsIterator.next.Goals as goal
@@ -6,5 +5,5 @@ use Rattle.library.proofs.iterators.stepping.StringsIterator.next.Goals as goal
 pub returns-clause-steps : goal.returns-clause-steps
 returns-clause-steps g c =
     let here = c.args.self.now in
-    let all = g.S.Source.strings here.source.now in
-    stepped string_viewed all here.next c.string-string.result c.string-string.ensures (omega (arith, c.if-self.false, here.counted))
+    let step = c.in_ok-next.ensures.steps.1 in
+    stepped string_viewed (g.S.Source.strings here.source.now) here.places.start c.in_ok-next.field-0 c.next.new.self.start here.places.end c.string.result c.string.ensures here.counted step.0 step.1 step.2
