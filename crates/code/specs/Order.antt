@@ -1,6 +1,6 @@
 -- The order of a code's characters, as a list of bytes from the lowest to the highest. Assumes nothing.
-use Rattle.std.specs.Prelude.{◌≡◌, ℕ, suc, ◌-◌, ◌<◌, Bool, true, false, ◌&&◌, ◌||◌, List, [], ◌∷◌, map, Some, ◌==◌, nat_lt}
-use Rattle.std.specs.List.{range_with_len}
+use Rattle.std.specs.Prelude.{◌≡◌, ℕ, suc, ◌-◌, ◌<◌, Bool, true, ◌&&◌, List, [], ◌∷◌, map, Some, ◌==◌, nat_lt}
+use Rattle.std.specs.List.{range_with_len, list_any}
 use Rattle.code.specs.Meaning.{CodeMeaning, rank_of, ranked}
 use Rattle.code.specs.Laws.{every, every_at}
 
@@ -9,8 +9,7 @@ abbrev pub from_to : ℕ → ℕ → List ℕ
 from_to low high = range_with_len low (suc high - low)
 
 abbrev pub among : ℕ → List ℕ → Bool
-among b [] = false
-among b (x ∷ xs) = b == x || among b xs
+among b xs = list_any (λ x. b == x) xs
 
 -- each number is less than the next
 abbrev pub rising : List ℕ → Bool

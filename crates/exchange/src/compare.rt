@@ -17,7 +17,7 @@ fn same_strings<S: Source, Q: Source>(one: &S, other: &Q) -> bool
     one.count() == other.count()
         && each_string(one)
             .zip(each_string(other))
-            .all(|(string, twin)| same_string(&string, &twin))
+            .all(|(string, theirs)| same_string(&string, &theirs))
 }
 
 // Are they the same, by their names and their strings?
@@ -34,5 +34,5 @@ pub fn same_programs<R: Reader, Q: Reader>(one: &R, other: &Q) -> bool
     one.programs() == other.programs()
         && each_program(one)
             .zip(each_program(other))
-            .all(|(program, twin)| same_program(&program, &twin))
+            .all(|(program, theirs)| same_program(&program, &theirs))
 }

@@ -24,8 +24,7 @@ impl<'a> Image<'a> {
         }
     }
 
-    // Opens the bytes of an image: puts the questions to them in their order, and holds their programs if none says no.
-    // Whatever library the host had, it has the image's now, or still that one.
+    // The opened image of these bytes, or the refusal of the first question that says no.
     pub fn open<C: Code>(code: &C, image: &'a [u8]) -> Result<Image<'a>, Refusal>
         ensures refusal { result_err result ≡ refusal_of_image C.meaning image.now }
         ensures opened { (before : Library) → Opened C.meaning image.now (result_err result) before (opened_or before result) }

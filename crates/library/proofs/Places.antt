@@ -1,20 +1,15 @@
 -- Where the program of a name stands.
-use Rattle.std.proofs.Common.{◌≡◌, ℕ, zero, suc, ◌+◌, ◌<◌, ◌≤◌, MatchOption, Bool, true, false, cond, List, [], ◌∷◌, length, Some, None, Decides, Option, refl, sym, ap, ◌∙◌, add-one, arith, Bor}
-use Rattle.std.specs.Option.{option_map, option_eq}
+use Rattle.std.proofs.Common.{◌≡◌, ℕ, zero, suc, ◌+◌, ◌<◌, MatchOption, Bool, true, false, cond, List, [], ◌∷◌, length, Some, None, Option, refl, sym, ap, ◌∙◌, add-one, arith}
+use Rattle.std.specs.Option.{option_map}
 use Rattle.std.specs.Str.{bytes_eq}
+use Rattle.std.specs.List.{AllWithin, HoldsAt}
+use Rattle.std.proofs.lemmas.Option.{get_or_from_slice_get, slice_get-get_or}
 use Rattle.std.proofs.lemmas.Slice.Eq.{bytes_eq-Decides}
-use Rattle.library.specs.Meaning.{Program, Lawful, name_at, place}
+use Rattle.library.specs.Meaning.{Program, Lawful, name_at, program_at, place}
 
 -- no program before k has the name n
 abbrev pub UnnamedBefore : List ℕ → List Program → ℕ → Type 0
 UnnamedBefore n ps k = (j : ℕ) → j < k → name_at ps j ≡ Some n → ⊥
-
--- `==` between the name that a library answers and n tells whether it is n
-pub compared : (o : Option (Bor (List ℕ))) (m : Option (List ℕ)) (n : Bor (List ℕ)) (t : Bool) → option_map (λ x. x.now) o ≡ m → t ≡ option_eq (λ x y. bytes_eq x.now y.now) o (Some n) → Decides t (m ≡ Some n.now)
-compared None m n t e f = ((λ h. cc), (λ h. cc))
-compared (Some x) m n t e f =
-    let d = bytes_eq-Decides x.now n.now in
-    ((λ h. let same : x.now ≡ n.now = d.0 (sym f ∙ h) in cc), (λ h. f ∙ d.1 (cc)))
 
 here : (n : List ℕ) (p : Program) (ps : List Program) → p.name ≡ n → place n (p ∷ ps) ≡ Some 0
 here n p ps e = simp ((bytes_eq-Decides p.name n).1 e)
@@ -46,11 +41,26 @@ pub place_only : (n : List ℕ) (ps : List Program) (r : Option ℕ) → r ≡ p
 place_only n ps r is lawful k named =
     is ∙ place_first n ps k named (λ j h other. omega (arith, lawful.distinct j k (record { name = n; at_j = other; at_k = named })))
 
--- what a search of the places in turn tells of its result r: the place of the name, that there it is, and that it is nowhere else
-pub searched : (n : List ℕ) (ps : List Program) (r : Option ℕ) (a b : ℕ) → a ≡ 0 → b ≡ length ps → MatchOption r ((k : ℕ) → a ≤ k → k < b → name_at ps k ≡ Some n → ⊥) (λ i. (a ≤ i) × (i < b) × (name_at ps i ≡ Some n) × ((k : ℕ) → a ≤ k → k < i → name_at ps k ≡ Some n → ⊥)) → Lawful ps → (r ≡ place n ps) × ((k : ℕ) → r ≡ Some k → name_at ps k ≡ Some n) × ((k : ℕ) → name_at ps k ≡ Some n → r ≡ Some k)
-searched n ps None a b from to none lawful =
-    let is = sym (place_none n ps (λ j h. none j (omega arith) (omega arith))) in
+no_program : Program
+no_program = record { name = []; strings = [] }
+
+-- programs of another name up to k: none before k has the name
+unnamed : (n : List ℕ) (ps : List Program) (k : ℕ) → AllWithin (λ (p : Program). p.name ≡ n → ⊥) ps 0 k → UnnamedBefore n ps k
+unnamed n ps k others j h named = go (program_at ps j) refl named
+  where
+    go : (o : Option Program) → program_at ps j ≡ o → option_map (λ (q : Program). q.name) o ≡ Some n → ⊥
+    go None is e = cc
+    go (Some p) is e =
+        let here = get_or_from_slice_get ps j p no_program is in
+        let same : p.name ≡ n = cc in
+        others j no_program (omega arith) h (ap (λ (q : Program). q.name) here ∙ same)
+
+-- what a search of the programs in turn tells of its result r: the place of the name, that there it is, and that it is nowhere else
+pub searched : (n : List ℕ) (ps : List Program) (r : Option ℕ) → MatchOption r (AllWithin (λ (p : Program). p.name ≡ n → ⊥) ps 0 (length ps)) (λ i. (i < length ps) × HoldsAt (λ (p : Program). p.name ≡ n) ps i × AllWithin (λ (p : Program). p.name ≡ n → ⊥) ps 0 i) → Lawful ps → (r ≡ place n ps) × ((k : ℕ) → r ≡ Some k → name_at ps k ≡ Some n) × ((k : ℕ) → name_at ps k ≡ Some n → r ≡ Some k)
+searched n ps None none lawful =
+    let is = sym (place_none n ps (unnamed n ps (length ps) none)) in
     (is, λ k e. cc, place_only n ps None is lawful)
-searched n ps (Some i) a b from to at lawful =
-    let is = sym (place_first n ps i at.2 (λ j h. at.3 j (omega arith) h)) in
-    (is, λ k e. let same : i ≡ k = cc in rw same at at.2, place_only n ps (Some i) is lawful)
+searched n ps (Some i) at lawful =
+    let named = ap (option_map (λ (q : Program). q.name)) (slice_get-get_or ps i no_program at.0) ∙ ap (λ (m : List ℕ). Some m) (at.1 no_program) in
+    let is = sym (place_first n ps i named (unnamed n ps i at.2)) in
+    (is, λ k e. let same : i ≡ k = cc in rw same at named, place_only n ps (Some i) is lawful)

@@ -1,4 +1,4 @@
-// What is lent, shared or to be changed, is used as what it is.
+// A reference to a library is a library, and one to strings is strings.
 use crate::lending::Lends;
 use crate::reader::Reader;
 use crate::space::Space;

@@ -7,7 +7,7 @@ mod bytes;
 const LONGEST: usize = 20;
 
 // 1 to 20 bytes; those past `len` are no part of the name.
-#[derive(Clone, Copy)]
+#[derive(Clone, Copy, PartialEq, Eq, Debug)]
 pub struct ProgramName {
     bytes: [u8; LONGEST],
     len: usize,

@@ -15,7 +15,7 @@ impl Glyphs for Ascii {
     fn glyph(&self, byte: u8) -> Option<char> {
         match byte {
             b'{' | b'}' => None,
-            0x20..=0x7E => Some(byte as char),
+            0x20..=0x7E => Some(char::from(byte)),
             _ => None,
         }
     }

@@ -14,13 +14,13 @@ impl Glyphs for Ebcdic {
 
     fn glyph(&self, byte: u8) -> Option<char> {
         match byte {
-            0x81..=0x89 => Some((b'a' + (byte - 0x81)) as char),
-            0x91..=0x99 => Some((b'j' + (byte - 0x91)) as char),
-            0xA2..=0xA9 => Some((b's' + (byte - 0xA2)) as char),
-            0xC1..=0xC9 => Some((b'A' + (byte - 0xC1)) as char),
-            0xD1..=0xD9 => Some((b'J' + (byte - 0xD1)) as char),
-            0xE2..=0xE9 => Some((b'S' + (byte - 0xE2)) as char),
-            0xF0..=0xF9 => Some((b'0' + (byte - 0xF0)) as char),
+            0x81..=0x89 => Some(char::from(b'a' + (byte - 0x81))),
+            0x91..=0x99 => Some(char::from(b'j' + (byte - 0x91))),
+            0xA2..=0xA9 => Some(char::from(b's' + (byte - 0xA2))),
+            0xC1..=0xC9 => Some(char::from(b'A' + (byte - 0xC1))),
+            0xD1..=0xD9 => Some(char::from(b'J' + (byte - 0xD1))),
+            0xE2..=0xE9 => Some(char::from(b'S' + (byte - 0xE2))),
+            0xF0..=0xF9 => Some(char::from(b'0' + (byte - 0xF0))),
             _ => special(byte),
         }
     }
