@@ -12,6 +12,7 @@ show() { # TITLE PATTERN..: the lines of the sources, without comments, that mat
 show '1a enums' '^\s*pub (\(crate\) )?enum |^enum '
 show '1b flags in structs' '^\s+(pub )?[a-z_]+: bool,$'
 show '1c numbers for refusals and kinds' 'Result<[^<>]*, u(8|16|32|64|size)>|: u8 = |"[0-9]" =>|\[[0-9]+, \.\.\]'
+show '1d an Option inside a Result' 'Result<Option<'
 echo '== 2a functions of one shape'
 python3 "$(dirname "$0")/twins.py" 8
 echo '== 2b names that two crates define in specs/'
