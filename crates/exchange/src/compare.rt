@@ -4,7 +4,7 @@ ghost use Rattle.library.specs.Views.{program_viewed, string_viewed};
 
 use library::{ProgramView, Reader, Source, StringView, each_program, each_string};
 
-// Are they the same, by their names and their bodies?
+// Are two strings the same, by their names and their bodies?
 fn same_string(one: &StringView, other: &StringView) -> bool
     ensures { Decides result (string_viewed one.now ≡ string_viewed other.now) }
 {
@@ -20,7 +20,7 @@ fn same_strings<S: Source, Q: Source>(one: &S, other: &Q) -> bool
             .all(|(string, theirs)| same_string(&string, &theirs))
 }
 
-// Are they the same, by their names and their strings?
+// Are two programs the same, by their names and their strings?
 fn same_program<R: Reader, Q: Reader>(one: &ProgramView<'_, R>, other: &ProgramView<'_, Q>) -> bool
     ensures { Decides result (program_viewed R.Reader.meaning one.now ≡ program_viewed Q.Reader.meaning other.now) }
 {

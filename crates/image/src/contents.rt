@@ -33,7 +33,7 @@ fn comes_next(entries: &[EntryBytes], name: &[u8]) -> bool
         .is_some_and(|bytes| Entry { bytes }.is_of(name))
 }
 
-// Is any of them?
+// Is any of these entries of the program of that name?
 fn comes_again(entries: &[EntryBytes], name: &[u8]) -> bool
     ensures { result ≡ among name.now (map program_of (entries_of_rows entries.now)) }
 {

@@ -33,6 +33,7 @@ impl<'a> Image<'a> {
         Image::admit(code, image)
     }
 
+    // The same, by the first refusal and the programs alone: what open promises follows from these.
     fn admit<C: Code>(code: &C, image: &'a [u8]) -> Result<Image<'a>, Refusal>
         ensures refusal { result_err result ≡ refusal_of_image C.meaning image.now }
         ensures held { IfOk result (λ opened. programs_held opened ≡ programs_of image.now) }

@@ -8,6 +8,7 @@ use crate::strings::Source;
 use std::ops::Range;
 pub use stepping::{each_program, each_string};
 
+// The strings at the places that are left.
 #[derive(Drop)]
 pub struct Strings<'a, S: Source> {
     source: &'a S,
@@ -15,6 +16,7 @@ pub struct Strings<'a, S: Source> {
     ghost counted: { places.end ≡ length (S.Source.strings source.now) },
 }
 
+// The programs at the places that are left.
 #[derive(Drop)]
 pub struct Programs<'a, R: Reader> {
     library: &'a R,

@@ -1,4 +1,6 @@
-// The interfaces of a library of programs, for reading and for keeping; views of programs and strings where they lie, and iterators over them; the name of a program as a type; finding a program by its name; a library behind a lock; and what a host does with any library, with the laws of keeping.
+// The interfaces of a library of programs, for reading and for keeping; views of programs and strings where they lie, and
+// iterators over them; the name of a program as a type; finding a program by its name; a library that is lent, and one behind a
+// lock; and what a host does with any library, with the laws of keeping.
 
 #![tactic(auto)]
 

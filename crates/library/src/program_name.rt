@@ -7,7 +7,7 @@ mod bytes;
 const LONGEST: usize = 20;
 
 // 1 to 20 bytes; those past `len` are no part of the name.
-#[derive(Clone, Copy, PartialEq, Eq, Debug)]
+#[derive(Clone, Copy)]
 pub struct ProgramName {
     bytes: [u8; LONGEST],
     len: usize,

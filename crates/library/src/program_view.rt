@@ -8,7 +8,7 @@ use crate::reader::Reader;
 use crate::string_view::StringView;
 use crate::strings::Source;
 
-// Its name, and the library that has its strings, at that place.
+// The name that it was found with, and the library that has its strings, at that place.
 #[derive(Clone, Copy)]
 pub struct ProgramView<'a, R> {
     pub name: &'a [u8],

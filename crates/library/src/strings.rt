@@ -7,7 +7,7 @@ ghost use Rattle.library.specs.Views.{string_viewed};
 
 use crate::string_view::StringView;
 
-// Where the strings of a program come from, counted from 0. Nothing is copied to hand them over.
+// Where the strings of a program come from. Nothing is copied to hand them over.
 pub trait Source {
     ghost strings: { Self → List NamedString };
 
@@ -15,6 +15,7 @@ pub trait Source {
     fn count(&self) -> usize
         ensures { result ≡ length (strings self.now) };
 
+    // A string, counted from 0; `None` past the last one.
     fn string(&self, string: usize) -> Option<StringView<'_>>
         ensures { option_map string_viewed result ≡ slice_get (strings self.now) string };
 }

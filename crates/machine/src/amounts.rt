@@ -1,4 +1,6 @@
 // What a processor has limits of.
+ghost use Rattle.std.specs.Prelude.{◌≡◌};
+ghost use Rattle.machine.specs.Chain.{bounds as bounds_of};
 
 #[derive(Clone, Copy, Debug, PartialEq, Eq)]
 pub struct Limits {
@@ -23,4 +25,27 @@ pub struct Amounts {
     // bytes printed
     pub print: usize,
     pub steps: usize,
+}
+
+impl Limits {
+    // What bounds an expansion: these limits, and an allowance of steps.
+    pub fn with_allowance(self, allowance: usize) -> Amounts
+        ensures { result ≡ bounds_of self allowance }
+    {
+        let Limits {
+            names,
+            roll,
+            store,
+            scan,
+            print,
+        } = self;
+        Amounts {
+            names,
+            roll,
+            store,
+            scan,
+            print,
+            steps: allowance,
+        }
+    }
 }

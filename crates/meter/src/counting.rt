@@ -31,14 +31,7 @@ impl Meter {
         ensures tally { tally result ≡ from_zero created }
     {
         Meter {
-            bounds: Amounts {
-                names: limits.names,
-                roll: limits.roll,
-                store: limits.store,
-                scan: limits.scan,
-                print: limits.print,
-                steps: allowance,
-            },
+            bounds: limits.with_allowance(allowance),
             needs: Amounts::default(),
             created,
             wanted: false,

@@ -1,4 +1,4 @@
-// Iterators made, and their steps.
+// How the iterators are made, and how they step.
 ghost use Rattle.std.specs.Prelude.{◌≡◌, length};
 ghost use Rattle.std.specs.Iterator.{YieldsFirstBy, at_most};
 ghost use Rattle.library.specs.Views.{string_viewed, program_viewed};

@@ -28,7 +28,7 @@ impl ProgramName {
         ensures len { NameLength result.now }
     {
         let len = self.len;
-        &self.bytes[0..len]
+        &self.bytes[..len]
     }
 }
 
