@@ -7,8 +7,10 @@ use Rattle.refusal.specs.declared.Refusal.{Refusal}
 use Rattle.library.specs.Meaning.{Program, Library, Lawful, NameLength, name_at, program_at}
 use Rattle.library.specs.Keeping.{store_refusal, with_program}
 use Rattle.library.specs.Name.{fits_name}
-use Rattle.exchange.specs.Stopping.{or_else, first_refusal, until_refused, ComesTo}
-use Rattle.exchange.specs.Copying.{between, stores, store_of, StoredInOrder}
+use Rattle.std.specs.Option.{option_or}
+use Rattle.exchange.specs.Stopping.{first_refusal, until_refused, ComesTo}
+use Rattle.std.specs.List.{between}
+use Rattle.exchange.specs.Copying.{stores, store_of, StoredInOrder}
 use Rattle.exchange.proofs.Stopping.{Alike, alike_on, alike_off, alike_end}
 
 -- the name of a program of a library can be a program's name ..
@@ -40,7 +42,7 @@ stored_one l m o p n r same is refused after =
           ∙ ap (λ (x : List ℕ). kept_or (store_refusal l p) (with_program l (record { name = x; strings = p.strings })) l) same;
     })
   where
-    alone : (a : Option Refusal) → a ≡ or_else a None
+    alone : (a : Option Refusal) → a ≡ option_or a None
     alone None = refl
     alone (Some x) = refl
 
@@ -84,6 +86,6 @@ pub stored_in_order : StoredInOrder
 stored_in_order l [] e = sym (append-nil l.programs)
 stored_in_order l (p ∷ ps) e = go (store_refusal l p) (stored_in_order (with_program l p) ps) e
   where
-    go : (a : Option Refusal) → (first_refusal (with_program l p) (stores ps) ≡ None → (until_refused (with_program l p) (stores ps)).programs ≡ (l.programs ++ p ∷ []) ++ ps) → or_else a (first_refusal (with_program l p) (stores ps)) ≡ None → (kept_or a (until_refused (with_program l p) (stores ps)) l).programs ≡ l.programs ++ p ∷ ps
+    go : (a : Option Refusal) → (first_refusal (with_program l p) (stores ps) ≡ None → (until_refused (with_program l p) (stores ps)).programs ≡ (l.programs ++ p ∷ []) ++ ps) → option_or a (first_refusal (with_program l p) (stores ps)) ≡ None → (kept_or a (until_refused (with_program l p) (stores ps)) l).programs ≡ l.programs ++ p ∷ ps
     go None rest e = rest e ∙ append_assoc l.programs (p ∷ []) ps
     go (Some r) rest e = cc

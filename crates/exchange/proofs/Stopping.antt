@@ -4,7 +4,8 @@ use Rattle.refusal.specs.Outcome.{kept_or}
 use Rattle.refusal.specs.declared.Refusal.{Refusal}
 use Rattle.library.specs.Meaning.{Library}
 use Rattle.library.specs.Operations.{Operation, refusal_of, done}
-use Rattle.exchange.specs.Stopping.{or_else, first_refusal, until_refused, ComesTo}
+use Rattle.std.specs.Option.{option_or}
+use Rattle.exchange.specs.Stopping.{first_refusal, until_refused, ComesTo}
 
 -- what os come to from l on is what ps come to from m on
 pub record Alike (l : Library) (os : List Operation) (m : Library) (ps : List Operation) : Type 0 where
@@ -19,7 +20,7 @@ goes_on : (l : Library) (os more : List Operation) → first_refusal l os ≡ No
 goes_on l [] more e = (refl, refl)
 goes_on l (o ∷ os) more e = go (refusal_of l o) (goes_on (done l o) os more) e
   where
-    go : (a : Option Refusal) → (first_refusal (done l o) os ≡ None → GoesOn (done l o) os more) → or_else a (first_refusal (done l o) os) ≡ None → (or_else a (first_refusal (done l o) (os ++ more)) ≡ first_refusal (kept_or a (until_refused (done l o) os) l) more) × (kept_or a (until_refused (done l o) (os ++ more)) l ≡ until_refused (kept_or a (until_refused (done l o) os) l) more)
+    go : (a : Option Refusal) → (first_refusal (done l o) os ≡ None → GoesOn (done l o) os more) → option_or a (first_refusal (done l o) os) ≡ None → (option_or a (first_refusal (done l o) (os ++ more)) ≡ first_refusal (kept_or a (until_refused (done l o) os) l) more) × (kept_or a (until_refused (done l o) (os ++ more)) l ≡ until_refused (kept_or a (until_refused (done l o) os) l) more)
     go None rest e = rest e
     go (Some r) rest e = (cc, cc)
 
@@ -31,7 +32,7 @@ stops : (l : Library) (os more : List Operation) (r : Refusal) → first_refusal
 stops l [] more r e = (cc, cc)
 stops l (o ∷ os) more r e = go (refusal_of l o) (stops (done l o) os more r) e
   where
-    go : (a : Option Refusal) → (first_refusal (done l o) os ≡ Some r → Stops (done l o) os more r) → or_else a (first_refusal (done l o) os) ≡ Some r → (or_else a (first_refusal (done l o) (os ++ more)) ≡ Some r) × (kept_or a (until_refused (done l o) (os ++ more)) l ≡ kept_or a (until_refused (done l o) os) l)
+    go : (a : Option Refusal) → (first_refusal (done l o) os ≡ Some r → Stops (done l o) os more r) → option_or a (first_refusal (done l o) os) ≡ Some r → (option_or a (first_refusal (done l o) (os ++ more)) ≡ Some r) × (kept_or a (until_refused (done l o) (os ++ more)) l ≡ kept_or a (until_refused (done l o) os) l)
     go None rest e = rest e
     go (Some s) rest e = (e, refl)
 

@@ -1,12 +1,8 @@
 -- The programs of a library as stores in another.
-use Rattle.std.specs.Prelude.{◌≡◌, ℕ, ◌-◌, List, [], ◌∷◌, ◌++◌, map, take, drop, Some, None, Option}
+use Rattle.std.specs.Prelude.{◌≡◌, List, [], ◌∷◌, ◌++◌, map, Some, None, Option}
 use Rattle.library.specs.Meaning.{Program, Library}
 use Rattle.library.specs.Operations.{Operation, store}
 use Rattle.exchange.specs.Stopping.{first_refusal, until_refused}
-
--- the programs at `first` and after it, and before `end`
-abbrev pub between : ℕ → ℕ → List Program → List Program
-between first end ps = take (end - first) (drop first ps)
 
 abbrev pub stores : List Program → List Operation
 stores ps = map store ps

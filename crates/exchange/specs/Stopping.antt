@@ -1,19 +1,15 @@
 -- Stores and deletes, one after another, up to the first that is refused.
-use Rattle.std.specs.Prelude.{◌≡◌, List, [], ◌∷◌, Some, None, Option}
+use Rattle.std.specs.Prelude.{◌≡◌, List, [], ◌∷◌, None, Option}
+use Rattle.std.specs.Option.{option_or}
 use Rattle.refusal.specs.Outcome.{kept_or}
 use Rattle.refusal.specs.declared.Refusal.{Refusal}
 use Rattle.library.specs.Meaning.{Library}
 use Rattle.library.specs.Operations.{Operation, refusal_of, done}
 
--- this refusal, or else the next
-abbrev pub or_else : Option Refusal → Option Refusal → Option Refusal
-or_else None next = next
-or_else (Some refusal) next = Some refusal
-
 -- why the first that is refused is refused; None where none is
 abbrev pub first_refusal : Library → List Operation → Option Refusal
 first_refusal l [] = None
-first_refusal l (o ∷ os) = or_else (refusal_of l o) (first_refusal (done l o) os)
+first_refusal l (o ∷ os) = option_or (refusal_of l o) (first_refusal (done l o) os)
 
 -- what they leave: the refused one and those after it change nothing
 abbrev pub until_refused : Library → List Operation → Library

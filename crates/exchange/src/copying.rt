@@ -2,7 +2,8 @@
 ghost use Rattle.std.specs.Result.{result_err};
 ghost use Rattle.library.specs.Meaning.{program_at};
 ghost use Rattle.exchange.specs.Stopping.{ComesTo};
-ghost use Rattle.exchange.specs.Copying.{store_of, stores, between, StoredInOrder};
+ghost use Rattle.std.specs.List.{between};
+ghost use Rattle.exchange.specs.Copying.{store_of, stores, StoredInOrder};
 
 use library::{Keeper, ProgramName, Reader, view_program};
 use refusal::Refusal;

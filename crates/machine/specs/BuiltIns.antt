@@ -1,5 +1,6 @@
 -- The table of the 46 built-in functions: their names, and the smallest numbers of parameters. Assumes nothing.
-use Rattle.std.specs.Prelude.{ℕ, cond, List, [], ◌∷◌, ◌++◌, map, Some, None, codes, Option}
+use Rattle.std.specs.Prelude.{ℕ, List, [], ◌∷◌, ◌++◌, map, codes, Option}
+use Rattle.std.specs.List.{find}
 use Rattle.std.specs.Str.{bytes_eq}
 use Rattle.machine.specs.declared.built_in.BuiltIn.{BuiltIn}
 use Rattle.machine.specs.declared.built_in.BuiltIn.TheVariants as group
@@ -127,8 +128,7 @@ abbrev pub name_of : Code → BuiltIn → Text
 name_of code f = spelled code (letters f)
 
 abbrev pub first_named : Code → Text → List BuiltIn → Option BuiltIn
-first_named code n [] = None
-first_named code n (f ∷ fs) = cond (bytes_eq (name_of code f) n) (Some f) (first_named code n fs)
+first_named code n fs = find (λ f. bytes_eq (name_of code f) n) fs
 
 -- the built-in function of a name
 abbrev pub built_in_named : Code → Text → Option BuiltIn

@@ -1,18 +1,19 @@
-// Lists an image of programs: the demonstration image, or the file that is named. A bad image is refused on standard
-// error, and the program ends with status 1.
+// Shows the demonstration image, and beside it a locked shelf of the same programs; or lists the image of the file that is
+// named. A bad image is refused on standard error, and the program ends with status 1.
 
 #![tactic(auto)]
 
+mod demonstration;
+mod filling;
 mod show;
 
+use demonstration::demonstrate;
 use show::text_of;
 use showing::{DEMO, exit_code};
 use std::process::ExitCode;
 use std::{env, fs};
 
-fn print_image(rt: &HostRuntime, title: &str, image: &[u8]) -> anyhow::Result<()> {
-    let text = text_of(rt.alloc(), image)?;
-    let size = image.len();
+fn print_granted(rt: &HostRuntime, title: &str, size: usize, text: &str) -> anyhow::Result<()> {
     print!(rt; "granted: {title}, {size} bytes\n{text}")?;
     Ok(())
 }
@@ -21,9 +22,13 @@ fn run(rt: &HostRuntime) -> anyhow::Result<()> {
     match env::args(rt)?.nth(1) {
         Some(path) => {
             let image = fs::read(rt, path.as_str())?;
-            print_image(rt, path.as_str(), &image)
+            let text = text_of(rt.alloc(), &image)?;
+            print_granted(rt, path.as_str(), image.len(), text.as_str())
         }
-        None => print_image(rt, "the demonstration image", &DEMO),
+        None => {
+            let text = demonstrate(rt.alloc(), &DEMO)?;
+            print_granted(rt, "the demonstration image", DEMO.len(), text.as_str())
+        }
     }
 }
 

@@ -8,13 +8,14 @@ use Rattle.library.specs.Locked.{locked_library}
 use Rattle.library.specs.Name.{name_bytes}
 use Rattle.library.specs.Operations.{program_of}
 use Rattle.shelf.specs.Shelved.{empty_library}
-use Rattle.exchange.specs.Stopping.{or_else, first_refusal, until_refused, ComesTo}
+use Rattle.std.specs.Option.{option_or}
+use Rattle.exchange.specs.Stopping.{first_refusal, until_refused, ComesTo}
 use Rattle.showing.specs.declared.failure.Failure.{Failure}
 use Rattle.showing.specs.declared.failure.Failure.TheVariants.{Refused, NoMemory}
 use Rattle.showing.specs.Failing.{FailedBy}
-use Rattle.ttm_both.specs.Filling.{filling}
-use Rattle.ttm_both.specs.Demonstration.{draft, shown, verdict, heading, shown_both, ShownBoth, shown_demonstration}
-use Rattle.ttm_both.proofs.Drafts.{draft_leaves_nothing}
+use Rattle.ttm_run.specs.Filling.{filling}
+use Rattle.ttm_run.specs.Demonstration.{draft, shown, verdict, heading, shown_both, ShownBoth, shown_demonstration}
+use Rattle.ttm_run.proofs.Drafts.{draft_leaves_nothing}
 
 -- the name DRAFT and its string are the draft
 pub drafted : (o : Option ProgramName) (n : ProgramName) → option_map name_bytes o ≡ Some (codes "DRAFT") → o ≡ Some n → program_of n draft.strings ≡ draft
@@ -40,17 +41,17 @@ together l m same before last e =
     cc
 
 -- the image was refused ..
-pub image_refused : (r : Refusal) (first next : Option Refusal) → Some r ≡ first → or_else first next ≡ Some r
-image_refused r first next e = ap (λ (o : Option Refusal). or_else o next) (sym e)
+pub image_refused : (r : Refusal) (first next : Option Refusal) → Some r ≡ first → option_or first next ≡ Some r
+image_refused r first next e = ap (λ (o : Option Refusal). option_or o next) (sym e)
 
 -- .. or was not, and then the shelf failed ..
-pub shelf_failed : (f : Failure) (first next told : Option Refusal) → None ≡ first → told ≡ next → FailedBy f told → FailedBy f (or_else first next)
-shelf_failed (Refused r) first next told e same fails = ap (λ (o : Option Refusal). or_else o next) (sym e) ∙ sym same ∙ fails
+pub shelf_failed : (f : Failure) (first next told : Option Refusal) → None ≡ first → told ≡ next → FailedBy f told → FailedBy f (option_or first next)
+shelf_failed (Refused r) first next told e same fails = ap (λ (o : Option Refusal). option_or o next) (sym e) ∙ sym same ∙ fails
 shelf_failed NoMemory first next told e same fails = tt
 
 -- .. or did not
-pub none_refused : (first next told : Option Refusal) → None ≡ first → told ≡ next → told ≡ None → or_else first next ≡ None
-none_refused first next told e same passed = ap (λ (o : Option Refusal). or_else o next) (sym e) ∙ sym same ∙ passed
+pub none_refused : (first next told : Option Refusal) → None ≡ first → told ≡ next → told ≡ None → option_or first next ≡ None
+none_refused first next told e same passed = ap (λ (o : Option Refusal). option_or o next) (sym e) ∙ sym same ∙ passed
 
 -- an image of these programs, and a locked shelf of its programs
 pub same_shown : (l m : Library) (ps : List Program) (before text : List ℕ) → before ≡ [] → l ≡ locked_library ps → m ≡ locked_library l.programs → ShownBoth before l m text → text ≡ shown_demonstration ps

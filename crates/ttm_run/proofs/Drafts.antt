@@ -10,11 +10,13 @@ use Rattle.library.specs.Meaning.{Program, Library, place, program_at}
 use Rattle.library.specs.Keeping.{store_refusal, delete_refusal, with_program, without_program, without_found, without_place}
 use Rattle.library.specs.Operations.{store, delete}
 use Rattle.library.proofs.Storing.{storable}
-use Rattle.exchange.specs.Stopping.{or_else, first_refusal, until_refused}
-use Rattle.exchange.specs.Copying.{between, stores}
+use Rattle.std.specs.Option.{option_or}
+use Rattle.exchange.specs.Stopping.{first_refusal, until_refused}
+use Rattle.std.specs.List.{between}
+use Rattle.exchange.specs.Copying.{stores}
 use Rattle.exchange.proofs.Stopping.{both_pass}
 use Rattle.exchange.proofs.InTurn.{stored_in_order}
-use Rattle.ttm_both.specs.Filling.{DraftLeavesNothing}
+use Rattle.ttm_run.specs.Filling.{DraftLeavesNothing}
 
 -- a program between others, whose name none before it has: where it is found ..
 place_in : (xs ys : List Program) (p : Program) → place p.name xs ≡ None → place p.name (xs ++ p ∷ ys) ≡ Some (length xs)
@@ -48,7 +50,7 @@ without_one l xs ys p is absent =
     ∙ cut_in xs ys p
 
 -- one operation that is not refused
-alone : {X : Type 0} (a : Option Refusal) (new old : X) → or_else a None ≡ None → (a ≡ None) × (kept_or a new old ≡ new)
+alone : {X : Type 0} (a : Option Refusal) (new old : X) → option_or a None ≡ None → (a ≡ None) × (kept_or a new old ≡ new)
 alone None new old e = (refl, refl)
 alone (Some r) new old e = (e, cc)
 

@@ -3,9 +3,9 @@ use Rattle.std.proofs.lemmas.Result.{err_from_is_err_and}
 use Rattle.library.specs.Locked.{locked_library}
 use Rattle.library.specs.Operations.{program_of}
 use Rattle.shelf.specs.Shelved.{meaning_of}
-use Rattle.ttm_both.specs.Demonstration.{draft}
-use Rattle.ttm_both.proofs.Shelving.{drafted, shelved}
-use Rattle.ttm_both.proofs.demonstration.shelve.Goals as goal
+use Rattle.ttm_run.specs.Demonstration.{draft}
+use Rattle.ttm_run.proofs.Shelving.{drafted, shelved}
+use Rattle.ttm_run.proofs.demonstration.shelve.Goals as goal
 
 pub returns-in_err-fill : goal.returns-in_err-fill
 returns-in_err-fill g c =

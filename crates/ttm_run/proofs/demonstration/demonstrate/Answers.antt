@@ -6,10 +6,10 @@ use Rattle.image.specs.Granting.{meaning_of as image_meaning}
 use Rattle.image.specs.Opening.{programs_of, image_library}
 use Rattle.shelf.specs.Shelved.{meaning_of as shelf_meaning, empty_library}
 use Rattle.exchange.specs.Stopping.{first_refusal}
-use Rattle.ttm_both.specs.Filling.{filling}
-use Rattle.ttm_both.specs.Demonstration.{draft}
-use Rattle.ttm_both.proofs.Shelving.{image_refused, shelf_failed, none_refused, same_shown}
-use Rattle.ttm_both.proofs.demonstration.demonstrate.Goals as goal
+use Rattle.ttm_run.specs.Filling.{filling}
+use Rattle.ttm_run.specs.Demonstration.{draft}
+use Rattle.ttm_run.proofs.Shelving.{image_refused, shelf_failed, none_refused, same_shown}
+use Rattle.ttm_run.proofs.demonstration.demonstrate.Goals as goal
 
 pub returns-in_err-opened : goal.returns-in_err-opened
 returns-in_err-opened c =

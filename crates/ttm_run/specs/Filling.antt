@@ -3,7 +3,8 @@ use Rattle.std.specs.Prelude.{◌≡◌, ℕ, List, [], ◌∷◌, ◌++◌, len
 use Rattle.library.specs.Meaning.{Program, Library}
 use Rattle.library.specs.Operations.{Operation, store, delete}
 use Rattle.exchange.specs.Stopping.{first_refusal, until_refused}
-use Rattle.exchange.specs.Copying.{between, stores}
+use Rattle.std.specs.List.{between}
+use Rattle.exchange.specs.Copying.{stores}
 
 -- the programs before the middle are stored, then the draft, then those after it, and the draft is deleted
 abbrev pub filling : ℕ → Program → List Program → List Operation

@@ -2,7 +2,7 @@
 ghost use Rattle.std.specs.Result.{result_err};
 ghost use Rattle.exchange.specs.Stopping.{ComesTo};
 ghost use Rattle.library.specs.Operations.{program_of};
-ghost use Rattle.ttm_both.specs.Filling.{filling, DraftLeavesNothing};
+ghost use Rattle.ttm_run.specs.Filling.{filling, DraftLeavesNothing};
 
 use exchange::store_programs;
 use library::{Keeper, ProgramName, Reader, Source};

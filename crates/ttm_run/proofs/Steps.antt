@@ -4,15 +4,17 @@ use Rattle.refusal.specs.Outcome.{kept_or}
 use Rattle.refusal.specs.declared.Refusal.{Refusal}
 use Rattle.library.specs.Meaning.{Program, Library}
 use Rattle.library.specs.Operations.{Operation, refusal_of, done}
-use Rattle.exchange.specs.Stopping.{or_else, ComesTo}
-use Rattle.exchange.specs.Copying.{between, stores}
+use Rattle.std.specs.Option.{option_or}
+use Rattle.exchange.specs.Stopping.{ComesTo}
+use Rattle.std.specs.List.{between}
+use Rattle.exchange.specs.Copying.{stores}
 use Rattle.exchange.proofs.Stopping.{on, off}
 
 -- one operation
 pub one : (l m : Library) (o : Operation) (r : Option Refusal) → r ≡ refusal_of l o → m ≡ kept_or r (done l o) l → ComesTo l (o ∷ []) r m
 one l m o r answer left = record { refusal = answer ∙ go (refusal_of l o); left = left ∙ ap (λ (a : Option Refusal). kept_or a (done l o) l) answer }
   where
-    go : (a : Option Refusal) → a ≡ or_else a None
+    go : (a : Option Refusal) → a ≡ option_or a None
     go None = refl
     go (Some r) = refl
 

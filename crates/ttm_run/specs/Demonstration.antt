@@ -7,10 +7,11 @@ use Rattle.library.specs.Locked.{locked_library}
 use Rattle.image.specs.Questions.{image_refusal}
 use Rattle.image.specs.Opening.{programs_of}
 use Rattle.shelf.specs.Shelved.{empty_library}
-use Rattle.exchange.specs.Stopping.{or_else, first_refusal}
+use Rattle.std.specs.Option.{option_or}
+use Rattle.exchange.specs.Stopping.{first_refusal}
 use Rattle.listing.specs.Listing.{listing}
 use Rattle.listing.specs.Ascii.{ascii_glyph}
-use Rattle.ttm_both.specs.Filling.{filling}
+use Rattle.ttm_run.specs.Filling.{filling}
 
 -- the program that is stored among the others and deleted again
 abbrev pub draft : Program
@@ -18,7 +19,7 @@ draft = record { name = codes "DRAFT"; strings = record { name = codes "DRAFT"; 
 
 -- the refusal of the image, or else of the programs on the shelf
 abbrev pub demonstration_refusal : List ℕ → Option Refusal
-demonstration_refusal image = or_else (image_refusal ascii image) (first_refusal empty_library (filling 2 draft (programs_of image)))
+demonstration_refusal image = option_or (image_refusal ascii image) (first_refusal empty_library (filling 2 draft (programs_of image)))
 
 abbrev pub shown : Library → List ℕ
 shown l = listing ascii (codes "ASCII") ascii_glyph l

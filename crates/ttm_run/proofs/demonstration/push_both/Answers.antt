@@ -3,9 +3,9 @@ use Rattle.std.proofs.lemmas.Result.{IfOk-weaker}
 use Rattle.library.specs.Locked.{lock_meaning}
 use Rattle.image.specs.Granting.{meaning_of as image_meaning}
 use Rattle.shelf.specs.Shelved.{meaning_of as shelf_meaning}
-use Rattle.ttm_both.specs.Demonstration.{shown, heading, ShownBoth}
-use Rattle.ttm_both.proofs.Shelving.{together}
-use Rattle.ttm_both.proofs.demonstration.push_both.Goals as goal
+use Rattle.ttm_run.specs.Demonstration.{shown, heading, ShownBoth}
+use Rattle.ttm_run.proofs.Shelving.{together}
+use Rattle.ttm_run.proofs.demonstration.push_both.Goals as goal
 
 pub returns : goal.returns
 unfolding heading

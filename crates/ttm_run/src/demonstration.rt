@@ -5,9 +5,9 @@ ghost use Rattle.image.specs.Granting.{meaning_of as image_meaning};
 ghost use Rattle.image.specs.Opening.{programs_of};
 ghost use Rattle.library.specs.Locked.{locked_library, lock_meaning};
 ghost use Rattle.shelf.specs.Shelved.{meaning_of as shelf_meaning, empty_library};
-ghost use Rattle.ttm_both.specs.Filling.{filling};
+ghost use Rattle.ttm_run.specs.Filling.{filling};
 ghost use Rattle.showing.specs.Failing.{FailsBy};
-ghost use Rattle.ttm_both.specs.Demonstration.{draft, ShownBoth, shown_demonstration, demonstration_refusal as refusal_of_demonstration, verdict as verdict_text};
+ghost use Rattle.ttm_run.specs.Demonstration.{draft, ShownBoth, shown_demonstration, demonstration_refusal as refusal_of_demonstration, verdict as verdict_text};
 
 use crate::filling::fill;
 use code::Ascii;

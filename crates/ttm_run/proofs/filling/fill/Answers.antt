@@ -1,9 +1,9 @@
 use Rattle.std.proofs.lemmas.Result.{err_from_is_err_and}
 use Rattle.library.specs.Name.{name_bytes}
 use Rattle.library.specs.Operations.{program_of, store, delete}
-use Rattle.ttm_both.proofs.Drafts.{draft_leaves_nothing}
-use Rattle.ttm_both.proofs.Steps.{one, to_the_end, first_off, second_off, third_off, all_on}
-use Rattle.ttm_both.proofs.filling.fill.Goals as goal
+use Rattle.ttm_run.proofs.Drafts.{draft_leaves_nothing}
+use Rattle.ttm_run.proofs.Steps.{one, to_the_end, first_off, second_off, third_off, all_on}
+use Rattle.ttm_run.proofs.filling.fill.Goals as goal
 
 pub returns-in_err-store_programs : goal.returns-in_err-store_programs
 returns-in_err-store_programs g c =

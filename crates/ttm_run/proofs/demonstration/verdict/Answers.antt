@@ -1,6 +1,6 @@
 use Rattle.std.proofs.Common.{sym, ap}
-use Rattle.ttm_both.specs.Demonstration.{verdict}
-use Rattle.ttm_both.proofs.demonstration.verdict.Goals as goal
+use Rattle.ttm_run.specs.Demonstration.{verdict}
+use Rattle.ttm_run.proofs.demonstration.verdict.Goals as goal
 
 pub returns-then-same : goal.returns-then-same
 unfolding verdict
