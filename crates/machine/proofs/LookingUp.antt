@@ -11,9 +11,10 @@ use Rattle.machine.specs.Faults.{Question, names?, store?, shortage, foreign_tex
 use Rattle.machine.specs.Chain.{Kind, names, kind, amount, Run, fault, ask, Tally, passed, gave, stopped, walk}
 use Rattle.machine.specs.BuiltIns.{name_of, first_named, all_built_ins}
 use Rattle.machine.specs.Dictionary.{Dictionary, Row, Meaning, built_in, string, new_string, in_rows, with_row, without_row, if_stands, without_original, look_up, define, names_in, bytes_in}
-use Rattle.machine.specs.World.{World, with_dictionary}
+use Rattle.machine.specs.World.{World, with_dictionary, p1, p2}
 use Rattle.machine.specs.Libraries.{fetching}
-use Rattle.machine.specs.Laws.{ADefinedNameIsLookedUp, OtherNamesStayWhenOneIsDefined, Distinct, DefiningKeepsNamesDistinct, ChangingKeepsNamesDistinct, ErasingKeepsNamesDistinct, AnErasedNameIsGone, OtherNamesStayWhenOneIsErased, last_fetched, FetchedStringsAreLookedUp}
+use Rattle.machine.specs.Strings.{copied_from, copy_to}
+use Rattle.machine.specs.Laws.{ADefinedNameIsLookedUp, Copied, ACopyOfAStringIsItsRest, ACopyOfABuiltInIsThatBuiltIn, OtherNamesStayWhenOneIsDefined, Distinct, DefiningKeepsNamesDistinct, ChangingKeepsNamesDistinct, ErasingKeepsNamesDistinct, AnErasedNameIsGone, OtherNamesStayWhenOneIsErased, last_fetched, FetchedStringsAreLookedUp}
 use Rattle.machine.proofs.Common.{never, false_from}
 
 same : (a b : Text) → a ≡ b → bytes_eq a b ≡ true
@@ -130,6 +131,16 @@ original_kept code n other stands fs h = go (first_named code other fs) refl
 
 pub defined : ADefinedNameIsLookedUp
 defined code d n m = rw (row_defined n m d.rows)
+
+copied : (code : Code) (ps : List Text) (w : World) (m : Meaning) → look_up code w.dictionary (p2 ps) ≡ Some m → Copied code ps w (copied_from m)
+copied code ps w m h =
+    record { after = define code (p1 ps) (copied_from m) w.dictionary; defines = ap (copy_to code ps w) h; means = defined code w.dictionary (p1 ps) (copied_from m) }
+
+pub string_copied : ACopyOfAStringIsItsRest
+string_copied code ps w s h = copied code ps w (string s) h
+
+pub built_in_copied : ACopyOfABuiltInIsThatBuiltIn
+built_in_copied code ps w f h = copied code ps w (built_in f) h
 
 pub kept_from_defined : OtherNamesStayWhenOneIsDefined
 kept_from_defined code d n other m h = ap₂ option_or (row_kept_from_defined n other m h d.rows) (original_kept code n other d.originals all_built_ins h)

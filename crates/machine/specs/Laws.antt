@@ -8,12 +8,13 @@ use Rattle.library.specs.Meaning.{Library, Program, NamedString}
 use Rattle.refusal.specs.declared.Refusal.{Refusal}
 use Rattle.machine.specs.declared.amounts.Amounts.{Amounts}
 use Rattle.machine.specs.declared.amounts.Limits.{Limits}
+use Rattle.machine.specs.declared.built_in.BuiltIn.{BuiltIn}
 use Rattle.machine.specs.Texts.{Text, Code}
 use Rattle.machine.specs.Faults.{Fault, refusal_of}
 use Rattle.machine.specs.Chain.{Tally, gave, walk}
-use Rattle.machine.specs.Dictionary.{Dictionary, Row, Meaning, string, Str, new_string, in_rows, look_up, define, change, erase}
-use Rattle.machine.specs.World.{World, with_library, Outcome, faults, changing}
-use Rattle.machine.specs.Strings.{segmented}
+use Rattle.machine.specs.Dictionary.{Dictionary, Row, Meaning, built_in, string, Str, new_string, in_rows, look_up, define, change, erase}
+use Rattle.machine.specs.World.{World, with_library, Outcome, faults, changing, defining, p1, p2}
+use Rattle.machine.specs.Strings.{segmented, copy_function}
 use Rattle.machine.specs.Arithmetic.{fifteen_digits}
 use Rattle.machine.specs.Libraries.{fetching, put_in_library, take_from_library}
 use Rattle.machine.specs.Scan.{match_of}
@@ -101,6 +102,23 @@ ParametersGoBackWhereTheyStood =
 -- DS, CF: a name means what it was defined as, and every other name what it meant
 abbrev pub ADefinedNameIsLookedUp : Type 0
 ADefinedNameIsLookedUp = (code : Code) (d : Dictionary) (n : Text) (m : Meaning) → look_up code (define code n m d) n ≡ Some m
+
+-- CF asks whether a dictionary fits in which the name p1 means m
+pub record Copied (code : Code) (ps : List Text) (w : World) (m : Meaning) : Type 0 where
+  pub after : Dictionary
+  pub defines : copy_function code ps w ≡ defining after w
+  pub means : look_up code after (p1 ps) ≡ Some m
+
+-- the copy of a string is what selection has left of it, and that of a built-in the built-in
+abbrev pub ACopyOfAStringIsItsRest : Type 0
+ACopyOfAStringIsItsRest =
+    (code : Code) (ps : List Text) (w : World) (s : Str) → look_up code w.dictionary (p2 ps) ≡ Some (string s) →
+    Copied code ps w (string (new_string (drop s.pointer s.body)))
+
+abbrev pub ACopyOfABuiltInIsThatBuiltIn : Type 0
+ACopyOfABuiltInIsThatBuiltIn =
+    (code : Code) (ps : List Text) (w : World) (f : BuiltIn) → look_up code w.dictionary (p2 ps) ≡ Some (built_in f) →
+    Copied code ps w (built_in f)
 
 abbrev pub OtherNamesStayWhenOneIsDefined : Type 0
 OtherNamesStayWhenOneIsDefined =

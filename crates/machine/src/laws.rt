@@ -2,7 +2,7 @@
 
 ghost use Rattle.machine.specs.Rules.{EveryStepGoesByOneRule};
 ghost use Rattle.machine.specs.Invariants.{CallsKeepNamesDistinct, NamesAreAlwaysDistinct, CallsKeepPointersWithin, PointersAreAlwaysWithin};
-ghost use Rattle.machine.specs.Laws.{PlainTextIsItself, BracketsMatchInBalance, DivisionAgreesWithTheIntegers, SumsAgreeWithTheIntegers, ParametersGoBackWhereTheyStood, ADefinedNameIsLookedUp, OtherNamesStayWhenOneIsDefined, DefiningKeepsNamesDistinct, ChangingKeepsNamesDistinct, ErasingKeepsNamesDistinct, AnErasedNameIsGone, OtherNamesStayWhenOneIsErased, FetchedStringsAreLookedUp, StoredAsTheLibraryDoes, DeletedAsTheLibraryDoes};
+ghost use Rattle.machine.specs.Laws.{PlainTextIsItself, BracketsMatchInBalance, DivisionAgreesWithTheIntegers, SumsAgreeWithTheIntegers, ParametersGoBackWhereTheyStood, ADefinedNameIsLookedUp, ACopyOfAStringIsItsRest, ACopyOfABuiltInIsThatBuiltIn, OtherNamesStayWhenOneIsDefined, DefiningKeepsNamesDistinct, ChangingKeepsNamesDistinct, ErasingKeepsNamesDistinct, AnErasedNameIsGone, OtherNamesStayWhenOneIsErased, FetchedStringsAreLookedUp, StoredAsTheLibraryDoes, DeletedAsTheLibraryDoes};
 
 // A step of the scan goes by one rule, brackets match in balance, and plain text is itself.
 pub fn scan_laws_hold()
@@ -25,6 +25,8 @@ pub fn string_laws_hold()
 // What a name means after a definition, an erasure and a fetch.
 pub fn dictionary_laws_hold()
     ensures defined { ADefinedNameIsLookedUp }
+    ensures copied { ACopyOfAStringIsItsRest }
+    ensures copied_built_in { ACopyOfABuiltInIsThatBuiltIn }
     ensures others_stay { OtherNamesStayWhenOneIsDefined }
     ensures distinct { DefiningKeepsNamesDistinct }
     ensures changed_distinct { ChangingKeepsNamesDistinct }
