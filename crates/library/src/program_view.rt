@@ -1,5 +1,5 @@
 // A program of a library, where it lies.
-ghost use Rattle.std.specs.Prelude.{◌≡◌};
+ghost use Rattle.std.specs.Prelude.{◌≡◌, IfSome};
 ghost use Rattle.std.specs.Option.{option_map};
 ghost use Rattle.library.specs.Meaning.{program_at, strings_of};
 ghost use Rattle.library.specs.Views.{program_viewed};
@@ -18,7 +18,8 @@ pub struct ProgramView<'a, R> {
 
 // The program at that place; `None` past the last one.
 pub fn view_program<R: Reader>(library: &R, program: usize) -> Option<ProgramView<'_, R>>
-    ensures { option_map (program_viewed R.Reader.meaning) result ≡ program_at (R.Reader.meaning library.now).programs program }
+    ensures shows { option_map (program_viewed R.Reader.meaning) result ≡ program_at (R.Reader.meaning library.now).programs program }
+    ensures place { IfSome result (λ view. view.program ≡ program) }
 {
     let name = library.name(program)?;
     Some(ProgramView {

@@ -18,10 +18,10 @@ pub struct Shelf {
     pub(crate) strings: Vec<StringRow>,
     // the bytes of names and bodies, in the order of the rows, without gaps
     pub(crate) bytes: Vec<u8>,
-    // there is memory for the most that it holds
-    ghost programs_reserved: { 32 ≤ vec_capacity programs },
-    ghost strings_reserved: { 128 ≤ vec_capacity strings },
-    ghost bytes_reserved: { 8192 ≤ vec_capacity bytes },
+    // there is memory for the most that it holds, and no more
+    ghost programs_reserved: { vec_capacity programs ≡ 32 },
+    ghost strings_reserved: { vec_capacity strings ≡ 128 },
+    ghost bytes_reserved: { vec_capacity bytes ≡ 8192 },
     // it holds no more
     ghost programs_bounded: { vec_len programs ≤ 32 },
     ghost strings_bounded: { vec_len strings ≤ 128 },
