@@ -35,6 +35,13 @@ expanding source text needs = record { limits = ample; earlier = []; allowance =
 abbrev pub stopping : ℕ → String → ℕ → Amounts → Case
 stopping allowance source number needs = record { limits = ample; earlier = []; allowance = allowance; source = source; number = number; text = ""; needs = needs }
 
+-- a first expansion that is refused in a call of that name
+abbrev pub faulting : Limits → String → ℕ → String → Amounts → Case
+faulting limits source number called needs = record { limits = limits; earlier = []; allowance = 1000000; source = source; number = number; text = called; needs = needs }
+
+abbrev pub print_of_three : Limits
+print_of_three = record { names = 128; roll = 256; store = 32768; scan = 32768; print = 3 }
+
 --  names, roll, store, scan, steps
 abbrev pub cases : List Case
 cases =
@@ -55,6 +62,12 @@ cases =
     ∷ expanding "#<DS;X;abc>#<CC;X>#<X>" "abc" (needing 1 3 4 22 22)
     -- a body that is replaced counts no more
     ∷ expanding "#<DS;X;abc>#<DS;X;abcd>" "" (needing 1 3 5 23 21)
+    -- the end of line is printed too
+    ∷ faulting print_of_three "#<PS;abc>" 38 "PS" (needing 0 2 0 9 8)
+    -- the 62nd substring takes the last mark number
+    ∷ faulting ample "#<DS;X;ab>#<SS;X;;;;;;;;;;;;;;;;;;;;;;;;;;;;;;;;;;;;;;;;;;;;;;;;;;;;;;;;;;;;;;a>#<SS;X;b>" 33 "SS" (needing 1 64 3 89 86)
+    -- the 17th class
+    ∷ faulting ample "#<DCL;a;x>#<DCL;b;x>#<DCL;c;x>#<DCL;d;x>#<DCL;e;x>#<DCL;f;x>#<DCL;g;x>#<DCL;h;x>#<DCL;i;x>#<DCL;j;x>#<DCL;k;x>#<DCL;l;x>#<DCL;m;x>#<DCL;n;x>#<DCL;o;x>#<DCL;p;x>#<DCL;q;x>" 35 "DCL" (needing 0 3 16 170 153)
     -- a call that the scan has no room for takes no created number
     ∷ record {
       limits = scan_of_twelve;
