@@ -6,24 +6,30 @@ use Rattle.std.proofs.lemmas.Bool.{cond-true, cond-false, and_from, and_left, an
 use Rattle.refusal.specs.declared.Refusal.{Refusal}
 use Rattle.refusal.specs.declared.Refusal.TheVariants.{NoInteger, SignedInteger, TooManyDigits, NoQuotient}
 use Rattle.machine.specs.Texts.{Text, Code}
-use Rattle.machine.specs.Faults.{no_integer, signed_integer, too_many_digits, no_quotient}
+use Rattle.machine.specs.Faults.{Fault, refusal_of, no_integer, signed_integer, too_many_digits, no_quotient}
 use Rattle.machine.specs.World.{World, Outcome, faults, provided}
 use Rattle.machine.specs.Numbers as machine
 use Rattle.machine.specs.Numbers.{read_integer}
 use Rattle.machine.specs.Arithmetic.{if_one, if_two, divides}
 use Rattle.machine.specs.Selection.{if_count}
 use Rattle.number.specs.declared.numeral.Numeral.{Numeral}
-use Rattle.number.specs.Numerals.{held}
-use Rattle.number.specs.Questions.{Question, Stops, GoesOn, Answers, dividing, paired}
+use Rattle.number.specs.Numerals.{held, value_within}
+use Rattle.number.specs.Results.{Attempt, ComesTo, dividing, paired}
 use Rattle.number.proofs.Sizes.{read_integer-below}
 
--- Answers, from what a result is.
+-- What an attempt comes to, from what the result is.
 
-pub refused : {V : Type 0} (q : Question V) (r : Result V Refusal) (e : Refusal) → r ≡ Err e → Stops q e → Answers q r
-refused q r e is stops = subst (λ x. Answers q x) (sym is) stops
+pub refused : {V : Type 0} (q : Attempt V) (r : Result V Refusal) (f : Fault) → r ≡ Err (refusal_of f) → ((w : World) (go : V → Outcome) → q w go ≡ faults f w) → ComesTo q r
+refused q r f is same = subst (λ x. ComesTo q x) (sym is) (record { why = f; says = refl; stops = same })
 
-pub granted : {V : Type 0} (q : Question V) (r : Result V Refusal) (v : V) → r ≡ Ok v → GoesOn q v → Answers q r
-granted q r v is goes = subst (λ x. Answers q x) (sym is) goes
+pub granted : {V : Type 0} (q : Attempt V) (r : Result V Refusal) (v : V) → r ≡ Ok v → ((w : World) (go : V → Outcome) → q w go ≡ go v) → ComesTo q r
+granted q r v is same = subst (λ x. ComesTo q x) (sym is) (record { on = same })
+
+-- all depends on one test
+pub tested : {V : Type 0} (q : Attempt V) (r : Result V Refusal) (t : Bool) (f : Fault) (v : V) → r ≡ cond t (Ok v) (Err (refusal_of f))
+    → ((w : World) (go : V → Outcome) → q w go ≡ provided t f w (go v)) → ComesTo q r
+tested q r true f v is same = granted q r v is same
+tested q r false f v is same = refused q r f is same
 
 pub if_ok_by : {V : Type 0} (P : V → Type 0) (r : Result V Refusal) → ((v : V) → r ≡ Ok v → P v) → IfOk r P
 if_ok_by P (Ok v) h = h v refl
@@ -45,7 +51,7 @@ taken o = ok_or (option_map held o) NoInteger
 
 -- r is the value of what is held, if at most that many digits are written
 pub record IsWithin (h : Numeral) (most : ℕ) (r : Result ℤ Refusal) : Type 0 where
-  pub at : (n : machine.Numeral) → h ≡ held n → r ≡ cond (nat_le n.digits most) (Ok n.value) (Err TooManyDigits)
+  pub at : (n : machine.Numeral) → h ≡ held n → r ≡ value_within n most
 
 -- a text is no integer
 pub record IsNone (o : Option machine.Numeral) (e : Refusal) : Type 0 where
@@ -68,119 +74,113 @@ some_taken (Some n) h is = record { n = n; is = refl; held_is = cc }
 
 -- ONE
 
-pub one_none : (o : Option machine.Numeral) (most : ℕ) (r : Result ℤ Refusal) (e : Refusal) → taken o ≡ Err e → r ≡ Err e → Answers (if_one o most) r
+pub one_none : (o : Option machine.Numeral) (most : ℕ) (r : Result ℤ Refusal) (e : Refusal) → taken o ≡ Err e → r ≡ Err e → ComesTo (if_one o most) r
 one_none o most r e is r_is =
     let none = none_taken o e is in
-    refused (if_one o most) r NoInteger (r_is ∙ ap Err none.says) (no_integer, refl, λ w go. ap (λ x. if_one x most w go) none.is)
+    refused (if_one o most) r no_integer (r_is ∙ ap Err none.says) (λ w go. ap (λ x. if_one x most w go) none.is)
 
-one_within : (b : Bool) (o : Option machine.Numeral) (n : machine.Numeral) (most : ℕ) (r : Result ℤ Refusal) → o ≡ Some n → nat_le n.digits most ≡ b
-    → r ≡ cond b (Ok n.value) (Err TooManyDigits) → Answers (if_one o most) r
-one_within true o n most r is b_is r_is =
-    granted (if_one o most) r n.value r_is (λ w go. ap (λ x. if_one x most w go) is ∙ cond-true _ _ _ b_is)
-one_within false o n most r is b_is r_is =
-    refused (if_one o most) r TooManyDigits r_is (too_many_digits, refl, λ w go. ap (λ x. if_one x most w go) is ∙ cond-false _ _ _ b_is)
-
-pub one_some : (o : Option machine.Numeral) (h : Numeral) (most : ℕ) (r : Result ℤ Refusal) → taken o ≡ Ok h → IsWithin h most r → Answers (if_one o most) r
+pub one_some : (o : Option machine.Numeral) (h : Numeral) (most : ℕ) (r : Result ℤ Refusal) → taken o ≡ Ok h → IsWithin h most r → ComesTo (if_one o most) r
 one_some o h most r is within =
-    let t = some_taken o h is in
-    one_within (nat_le t.n.digits most) o t.n most r t.is refl (within.at t.n t.held_is)
+    let x = some_taken o h is in
+    tested (if_one o most) r (nat_le x.n.digits most) too_many_digits x.n.value (within.at x.n x.held_is) (λ w go. ap (λ x. if_one x most w go) x.is)
 
 pub one_small : (code : Code) (t : Text) (h : Numeral) (most : ℕ) (r : Result ℤ Refusal) → taken (read_integer code t) ≡ Ok h → IsWithin h most r
     → (v : ℤ) → r ≡ Ok v → unsigned_abs v < 10 ^ most
 one_small code t h most r is within v r_is =
-    let got = some_taken (read_integer code t) h is in
-    let ok = cond_ok (nat_le got.n.digits most) got.n.value v TooManyDigits (sym (within.at got.n got.held_is) ∙ r_is) in
-    let below = read_integer-below code t got.n most got.is (leb-true got.n.digits most ok.0) in
-    rw ok.1 below
+    let x = some_taken (read_integer code t) h is in
+    let fits = cond_ok (nat_le x.n.digits most) x.n.value v TooManyDigits (sym (within.at x.n x.held_is) ∙ r_is) in
+    rw fits.1 (read_integer-below code t x.n most x.is (leb-true x.n.digits most fits.0))
 
 -- TWO
 
-pub two_none_x : (a b : Option machine.Numeral) (m n : ℕ) (r : Result (ℤ × ℤ) Refusal) (e : Refusal) → taken a ≡ Err e → r ≡ Err e → Answers (paired (if_two a b m n)) r
-two_none_x a b m n r e is r_is =
-    let none = none_taken a e is in
-    refused (paired (if_two a b m n)) r NoInteger (r_is ∙ ap Err none.says) (no_integer, refl, λ w go. ap (λ x. paired (if_two x b m n) w go) none.is)
+module _ (a b : Option machine.Numeral) (m n : ℕ) where
+  abbrev two : Attempt (ℤ × ℤ)
+  two = paired (if_two a b m n)
 
-pub two_none_y : (a b : Option machine.Numeral) (m n : ℕ) (h : Numeral) (r : Result (ℤ × ℤ) Refusal) (e : Refusal) → taken a ≡ Ok h → taken b ≡ Err e → r ≡ Err e
-    → Answers (paired (if_two a b m n)) r
-two_none_y a b m n h r e a_is b_is r_is =
-    let x = some_taken a h a_is in
-    let none = none_taken b e b_is in
-    refused (paired (if_two a b m n)) r NoInteger (r_is ∙ ap Err none.says)
-    (no_integer, refl, λ w go. ap (λ t. paired (if_two t b m n) w go) x.is ∙ ap (λ t. paired (if_two (Some x.n) t m n) w go) none.is)
+  pub two_none_x : (r : Result (ℤ × ℤ) Refusal) (e : Refusal) → taken a ≡ Err e → r ≡ Err e → ComesTo two r
+  two_none_x r e is r_is =
+      let none = none_taken a e is in
+      refused two r no_integer (r_is ∙ ap Err none.says) (λ w go. ap (λ x. paired (if_two x b m n) w go) none.is)
 
--- both texts are integers, and their lengths are tested
-two_within : (a b : Option machine.Numeral) (m n : ℕ) (x y : machine.Numeral) (t : Bool) (w : World) (go : ℤ × ℤ → Outcome) → a ≡ Some x → b ≡ Some y
-    → (nat_le x.digits m && nat_le y.digits n) ≡ t → paired (if_two a b m n) w go ≡ provided t too_many_digits w (go (x.value, y.value))
-two_within a b m n x y t w go a_is b_is t_is =
-    ap (λ o. paired (if_two o b m n) w go) a_is ∙ ap (λ o. paired (if_two (Some x) o m n) w go) b_is ∙ ap (λ t. provided t too_many_digits w (go (x.value, y.value))) t_is
+  pub two_none_y : (h : Numeral) (r : Result (ℤ × ℤ) Refusal) (e : Refusal) → taken a ≡ Ok h → taken b ≡ Err e → r ≡ Err e → ComesTo two r
+  two_none_y h r e a_is b_is r_is =
+      let x = some_taken a h a_is in
+      let none = none_taken b e b_is in
+      refused two r no_integer (r_is ∙ ap Err none.says)
+      (λ w go. ap (λ o. paired (if_two o b m n) w go) x.is ∙ ap (λ o. paired (if_two (Some x.n) o m n) w go) none.is)
 
-two_long : (a b : Option machine.Numeral) (m n : ℕ) (x y : machine.Numeral) (r : Result (ℤ × ℤ) Refusal) → a ≡ Some x → b ≡ Some y
-    → (nat_le x.digits m && nat_le y.digits n) ≡ false → r ≡ Err TooManyDigits → Answers (paired (if_two a b m n)) r
-two_long a b m n x y r a_is b_is t_is r_is =
-    refused (paired (if_two a b m n)) r TooManyDigits r_is (too_many_digits, refl, λ w go. two_within a b m n x y false w go a_is b_is t_is)
+  -- both texts are integers, and their lengths are tested
+  two_tested : (x y : machine.Numeral) (r : Result (ℤ × ℤ) Refusal) → a ≡ Some x → b ≡ Some y
+      → r ≡ cond (nat_le x.digits m && nat_le y.digits n) (Ok (x.value, y.value)) (Err TooManyDigits) → ComesTo two r
+  two_tested x y r a_is b_is r_is =
+      tested two r (nat_le x.digits m && nat_le y.digits n) too_many_digits (x.value, y.value) r_is
+      (λ w go. ap (λ o. paired (if_two o b m n) w go) a_is ∙ ap (λ o. paired (if_two (Some x) o m n) w go) b_is)
 
-pub two_long_x : (a b : Option machine.Numeral) (m n : ℕ) (h k : Numeral) (s : Result ℤ Refusal) (r : Result (ℤ × ℤ) Refusal) (e : Refusal) → taken a ≡ Ok h → taken b ≡ Ok k
-    → IsWithin h m s → s ≡ Err e → r ≡ Err e → Answers (paired (if_two a b m n)) r
-two_long_x a b m n h k s r e a_is b_is within s_is r_is =
-    let x = some_taken a h a_is in
-    let y = some_taken b k b_is in
-    let long = cond_err (nat_le x.n.digits m) x.n.value TooManyDigits e (sym (within.at x.n x.held_is) ∙ s_is) in
-    two_long a b m n x.n y.n r x.is y.is (and_left _ _ long.0) (r_is ∙ ap Err long.1)
+  pub two_long_x : (h k : Numeral) (s : Result ℤ Refusal) (r : Result (ℤ × ℤ) Refusal) (e : Refusal) → taken a ≡ Ok h → taken b ≡ Ok k
+      → IsWithin h m s → s ≡ Err e → r ≡ Err e → ComesTo two r
+  two_long_x h k s r e a_is b_is within s_is r_is =
+      let x = some_taken a h a_is in
+      let y = some_taken b k b_is in
+      let long = cond_err (nat_le x.n.digits m) x.n.value TooManyDigits e (sym (within.at x.n x.held_is) ∙ s_is) in
+      two_tested x.n y.n r x.is y.is (r_is ∙ ap Err long.1 ∙ sym (cond-false _ _ _ (and_left _ _ long.0)))
 
-pub two_long_y : (a b : Option machine.Numeral) (m n : ℕ) (h k : Numeral) (s : Result ℤ Refusal) (r : Result (ℤ × ℤ) Refusal) (e : Refusal) → taken a ≡ Ok h → taken b ≡ Ok k
-    → IsWithin k n s → s ≡ Err e → r ≡ Err e → Answers (paired (if_two a b m n)) r
-two_long_y a b m n h k s r e a_is b_is within s_is r_is =
-    let x = some_taken a h a_is in
-    let y = some_taken b k b_is in
-    let long = cond_err (nat_le y.n.digits n) y.n.value TooManyDigits e (sym (within.at y.n y.held_is) ∙ s_is) in
-    two_long a b m n x.n y.n r x.is y.is (and_right _ _ long.0) (r_is ∙ ap Err long.1)
+  pub two_long_y : (h k : Numeral) (s : Result ℤ Refusal) (r : Result (ℤ × ℤ) Refusal) (e : Refusal) → taken a ≡ Ok h → taken b ≡ Ok k
+      → IsWithin k n s → s ≡ Err e → r ≡ Err e → ComesTo two r
+  two_long_y h k s r e a_is b_is within s_is r_is =
+      let x = some_taken a h a_is in
+      let y = some_taken b k b_is in
+      let long = cond_err (nat_le y.n.digits n) y.n.value TooManyDigits e (sym (within.at y.n y.held_is) ∙ s_is) in
+      two_tested x.n y.n r x.is y.is (r_is ∙ ap Err long.1 ∙ sym (cond-false _ _ _ (and_right _ _ long.0)))
 
-pub two_some : (a b : Option machine.Numeral) (m n : ℕ) (h k : Numeral) (s t : Result ℤ Refusal) (u v : ℤ) → taken a ≡ Ok h → taken b ≡ Ok k
-    → IsWithin h m s → IsWithin k n t → s ≡ Ok u → t ≡ Ok v → GoesOn (paired (if_two a b m n)) (u, v)
-two_some a b m n h k s t u v a_is b_is within_x within_y s_is t_is =
-    let x = some_taken a h a_is in
-    let y = some_taken b k b_is in
-    let fits_x = cond_ok (nat_le x.n.digits m) x.n.value u TooManyDigits (sym (within_x.at x.n x.held_is) ∙ s_is) in
-    let fits_y = cond_ok (nat_le y.n.digits n) y.n.value v TooManyDigits (sym (within_y.at y.n y.held_is) ∙ t_is) in
-    λ w go. two_within a b m n x.n y.n true w go x.is y.is (and_from _ _ fits_x.0 fits_y.0) ∙ ap (λ u. go (u, y.n.value)) (sym fits_x.1) ∙ ap (λ v. go (u, v)) (sym fits_y.1)
+  pub two_some : (h k : Numeral) (s t : Result ℤ Refusal) (u v : ℤ) → taken a ≡ Ok h → taken b ≡ Ok k
+      → IsWithin h m s → IsWithin k n t → s ≡ Ok u → t ≡ Ok v → ComesTo two (Ok (u, v))
+  two_some h k s t u v a_is b_is within_x within_y s_is t_is =
+      let x = some_taken a h a_is in
+      let y = some_taken b k b_is in
+      let fits_x = cond_ok (nat_le x.n.digits m) x.n.value u TooManyDigits (sym (within_x.at x.n x.held_is) ∙ s_is) in
+      let fits_y = cond_ok (nat_le y.n.digits n) y.n.value v TooManyDigits (sym (within_y.at y.n y.held_is) ∙ t_is) in
+      two_tested x.n y.n (Ok (u, v)) x.is y.is
+      (ap (λ u. Ok (u, v)) fits_x.1 ∙ ap (λ v. Ok (x.n.value, v)) fits_y.1 ∙ sym (cond-true _ _ _ (and_from _ _ fits_x.0 fits_y.0)))
 
 -- A COUNT
 
-pub count_none : (o : Option machine.Numeral) (r : Result ℕ Refusal) (e : Refusal) → taken o ≡ Err e → r ≡ Err e → Answers (if_count o) r
-count_none o r e is r_is =
-    let none = none_taken o e is in
-    refused (if_count o) r NoInteger (r_is ∙ ap Err none.says) (no_integer, refl, λ w go. ap (λ x. if_count x w go) none.is)
+module _ (o : Option machine.Numeral) where
+  pub count_none : (r : Result ℕ Refusal) (e : Refusal) → taken o ≡ Err e → r ≡ Err e → ComesTo (if_count o) r
+  count_none r e is r_is =
+      let none = none_taken o e is in
+      refused (if_count o) r no_integer (r_is ∙ ap Err none.says) (λ w go. ap (λ x. if_count x w go) none.is)
 
-pub count_signed : (o : Option machine.Numeral) (h : Numeral) → taken o ≡ Ok h → h.signed ≡ true → Stops (if_count o) SignedInteger
-count_signed o h is signed =
-    let t = some_taken o h is in
-    let n_signs : t.n.signs ≡ true = sym (ap (λ (h : Numeral). h.signed) t.held_is) ∙ signed in
-    (signed_integer, refl, λ w go. ap (λ x. if_count x w go) t.is ∙ cond-false _ _ _ (not_from_true t.n.signs n_signs))
+  signs_are : (h : Numeral) (x : IsTaken o h) (t : Bool) → h.signed ≡ t → x.n.signs ≡ t
+  signs_are h x t is = sym (ap (λ (h : Numeral). h.signed) x.held_is) ∙ is
 
--- the sign is tested, and then the length
-count_within : (o : Option machine.Numeral) (n : machine.Numeral) (t : Bool) (w : World) (go : ℕ → Outcome) → o ≡ Some n → n.signs ≡ false → nat_le n.digits 9 ≡ t
-    → if_count o w go ≡ provided t too_many_digits w (go (unsigned_abs n.value))
-count_within o n t w go is n_signs t_is =
-    ap (λ x. if_count x w go) is ∙ cond-true _ _ _ (not_from_false n.signs n_signs) ∙ ap (λ t. provided t too_many_digits w (go (unsigned_abs n.value))) t_is
+  pub count_signed : (h : Numeral) → taken o ≡ Ok h → h.signed ≡ true → ComesTo (if_count o) (Err SignedInteger)
+  count_signed h is signed =
+      let x = some_taken o h is in
+      refused (if_count o) (Err SignedInteger) signed_integer refl
+      (λ w go. ap (λ x. if_count x w go) x.is ∙ cond-false _ _ _ (not_from_true x.n.signs (signs_are h x true signed)))
 
-no_sign : (o : Option machine.Numeral) (h : Numeral) (t : IsTaken o h) → h.signed ≡ false → t.n.signs ≡ false
-no_sign o h t unsigned = sym (ap (λ (h : Numeral). h.signed) t.held_is) ∙ unsigned
+  -- no sign is written, and the length is tested
+  count_tested : (h : Numeral) (x : IsTaken o h) (r : Result ℕ Refusal) → h.signed ≡ false
+      → r ≡ cond (nat_le x.n.digits 9) (Ok (unsigned_abs x.n.value)) (Err TooManyDigits) → ComesTo (if_count o) r
+  count_tested h x r unsigned r_is =
+      tested (if_count o) r (nat_le x.n.digits 9) too_many_digits (unsigned_abs x.n.value) r_is
+      (λ w go. ap (λ x. if_count x w go) x.is ∙ cond-true _ _ _ (not_from_false x.n.signs (signs_are h x false unsigned)))
 
-pub count_long : (o : Option machine.Numeral) (h : Numeral) (s : Result ℤ Refusal) (r : Result ℕ Refusal) (e : Refusal) → taken o ≡ Ok h → h.signed ≡ false → IsWithin h 9 s
-    → s ≡ Err e → r ≡ Err e → Answers (if_count o) r
-count_long o h s r e is unsigned within s_is r_is =
-    let t = some_taken o h is in
-    let long = cond_err (nat_le t.n.digits 9) t.n.value TooManyDigits e (sym (within.at t.n t.held_is) ∙ s_is) in
-    refused (if_count o) r TooManyDigits (r_is ∙ ap Err long.1) (too_many_digits, refl, λ w go. count_within o t.n false w go t.is (no_sign o h t unsigned) long.0)
+  pub count_long : (h : Numeral) (s : Result ℤ Refusal) (r : Result ℕ Refusal) (e : Refusal) → taken o ≡ Ok h → h.signed ≡ false → IsWithin h 9 s
+      → s ≡ Err e → r ≡ Err e → ComesTo (if_count o) r
+  count_long h s r e is unsigned within s_is r_is =
+      let x = some_taken o h is in
+      let long = cond_err (nat_le x.n.digits 9) x.n.value TooManyDigits e (sym (within.at x.n x.held_is) ∙ s_is) in
+      count_tested h x r unsigned (r_is ∙ ap Err long.1 ∙ sym (cond-false _ _ _ long.0))
 
-pub count_some : (o : Option machine.Numeral) (h : Numeral) (s : Result ℤ Refusal) (v : ℤ) → taken o ≡ Ok h → h.signed ≡ false → IsWithin h 9 s → s ≡ Ok v
-    → GoesOn (if_count o) (unsigned_abs v)
-count_some o h s v is unsigned within s_is =
-    let t = some_taken o h is in
-    let fits = cond_ok (nat_le t.n.digits 9) t.n.value v TooManyDigits (sym (within.at t.n t.held_is) ∙ s_is) in
-    λ w go. count_within o t.n true w go t.is (no_sign o h t unsigned) fits.0 ∙ ap (λ v. go (unsigned_abs v)) (sym fits.1)
+  pub count_some : (h : Numeral) (s : Result ℤ Refusal) (v : ℤ) (n : ℕ) → taken o ≡ Ok h → h.signed ≡ false → IsWithin h 9 s → s ≡ Ok v
+      → n ≡ unsigned_abs v → ComesTo (if_count o) (Ok n)
+  count_some h s v n is unsigned within s_is n_is =
+      let x = some_taken o h is in
+      let fits = cond_ok (nat_le x.n.digits 9) x.n.value v TooManyDigits (sym (within.at x.n x.held_is) ∙ s_is) in
+      count_tested h x (Ok n) unsigned (ap Ok (n_is ∙ ap unsigned_abs fits.1) ∙ sym (cond-true _ _ _ fits.0))
 
--- A quotient.
+-- A QUOTIENT
 
-pub undivided : (x y : ℤ) (part : ℤ → ℤ → ℤ) → divides x y ≡ false → Stops (dividing x y part) NoQuotient
-undivided x y part e = (no_quotient, refl, λ w go. cond-false (divides x y) (go (part x y)) (faults no_quotient w) e)
+pub undivided : (x y : ℤ) (part : ℤ → ℤ → ℤ) → divides x y ≡ false → ComesTo (dividing x y part) (Err NoQuotient)
+undivided x y part e = refused (dividing x y part) (Err NoQuotient) no_quotient refl (λ w go. cond-false (divides x y) (go (part x y)) (faults no_quotient w) e)

@@ -1,5 +1,7 @@
 -- Numerals of the machine as code holds them. Assumes nothing.
-use Rattle.std.specs.Prelude.{ℕ, ◌-◌, ◌^◌, Bool, true, false, cond, min, ℤ, pos, neg_ℤ, Some, None, Option, nat_le}
+use Rattle.std.specs.Prelude.{ℕ, ◌-◌, ◌^◌, Bool, true, false, cond, min, ℤ, pos, neg_ℤ, Some, None, Option, Ok, Err, Result, nat_le}
+use Rattle.refusal.specs.declared.Refusal.{Refusal}
+use Rattle.refusal.specs.declared.Refusal.TheVariants.{TooManyDigits}
 use Rattle.std.specs.Option.{option_map}
 use Rattle.machine.specs.Texts.{Text, Code}
 use Rattle.machine.specs.Numbers.{read_digits, numeral}
@@ -11,6 +13,10 @@ use Rattle.number.specs.declared.reading.Sign.TheVariants.{Unwritten, Plus, Minu
 -- the value is kept where at most 18 digits are written
 abbrev pub held : machine.Numeral → Numeral
 held n = record { signed = n.signs; digits = n.digits; value = cond (nat_le n.digits 18) (Some n.value) None }
+
+-- the value, if at most that many digits are written
+abbrev pub value_within : machine.Numeral → ℕ → Result ℤ Refusal
+value_within n most = cond (nat_le n.digits most) (Ok n.value) (Err TooManyDigits)
 
 -- the largest number of 64 bits stands for any larger one
 abbrev pub capped : ℕ → ℕ
