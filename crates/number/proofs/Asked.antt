@@ -1,13 +1,13 @@
 -- What the questions come to, from what was read.
-use Rattle.std.proofs.Common.{◌≡◌, ℕ, ◌<◌, ◌^◌, Bool, true, false, cond, ◌&&◌, ℤ, Some, None, Ok, Err, refl, sym, ap, subst, ◌∙◌, nat_le, unsigned_abs}
+use Rattle.std.proofs.Common.{◌≡◌, ℕ, ◌<◌, ◌^◌, Bool, true, false, cond, ◌&&◌, ℤ, Some, None, Ok, Err, refl, sym, ap, ◌∙◌, nat_le, unsigned_abs}
 use Rattle.std.specs.Prelude.{Option, Result, IfOk}
 use Rattle.std.specs.Option.{ok_or, option_map}
 use Rattle.std.proofs.lemmas.Bool.{cond-true, cond-false, and_from, and_left, and_right, leb-true, not_from_true, not_from_false}
 use Rattle.refusal.specs.declared.Refusal.{Refusal}
 use Rattle.refusal.specs.declared.Refusal.TheVariants.{NoInteger, SignedInteger, TooManyDigits, NoQuotient}
 use Rattle.machine.specs.Texts.{Text, Code}
-use Rattle.machine.specs.Faults.{Fault, refusal_of, no_integer, signed_integer, too_many_digits, no_quotient}
-use Rattle.machine.specs.World.{World, Outcome, faults, provided}
+use Rattle.machine.specs.Faults.{no_integer, signed_integer, too_many_digits, no_quotient}
+use Rattle.machine.specs.World.{faults}
 use Rattle.machine.specs.Numbers as machine
 use Rattle.machine.specs.Numbers.{read_integer}
 use Rattle.machine.specs.Arithmetic.{if_one, if_two, divides}
@@ -15,21 +15,8 @@ use Rattle.machine.specs.Selection.{if_count}
 use Rattle.number.specs.declared.numeral.Numeral.{Numeral}
 use Rattle.number.specs.Numerals.{held, value_within}
 use Rattle.number.specs.Results.{Attempt, ComesTo, dividing, paired}
+use Rattle.number.proofs.Attempts.{refused, tested}
 use Rattle.number.proofs.Sizes.{read_integer-below}
-
--- What an attempt comes to, from what the result is.
-
-pub refused : {V : Type 0} (q : Attempt V) (r : Result V Refusal) (f : Fault) → r ≡ Err (refusal_of f) → ((w : World) (go : V → Outcome) → q w go ≡ faults f w) → ComesTo q r
-refused q r f is same = subst (λ x. ComesTo q x) (sym is) (record { why = f; says = refl; stops = same })
-
-pub granted : {V : Type 0} (q : Attempt V) (r : Result V Refusal) (v : V) → r ≡ Ok v → ((w : World) (go : V → Outcome) → q w go ≡ go v) → ComesTo q r
-granted q r v is same = subst (λ x. ComesTo q x) (sym is) (record { on = same })
-
--- all depends on one test
-pub tested : {V : Type 0} (q : Attempt V) (r : Result V Refusal) (t : Bool) (f : Fault) (v : V) → r ≡ cond t (Ok v) (Err (refusal_of f))
-    → ((w : World) (go : V → Outcome) → q w go ≡ provided t f w (go v)) → ComesTo q r
-tested q r true f v is same = granted q r v is same
-tested q r false f v is same = refused q r f is same
 
 pub if_ok_by : {V : Type 0} (P : V → Type 0) (r : Result V Refusal) → ((v : V) → r ≡ Ok v → P v) → IfOk r P
 if_ok_by P (Ok v) h = h v refl
