@@ -1,0 +1,5 @@
+pub mod Digits
+pub mod Sizes
+pub mod Attempts
+pub mod Asked
+pub mod Written
