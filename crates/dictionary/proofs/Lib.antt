@@ -1,0 +1,4 @@
+pub mod Packed
+pub mod Sizes
+pub mod Originals
+pub mod Meant

@@ -1,0 +1,16 @@
+-- What a dictionary means, by its parts.
+use Rattle.std.proofs.Common.{◌≡◌, ℕ, Bool, true, false, List, [], ◌∷◌, get_or}
+use Rattle.machine.specs.declared.built_in.BuiltIn.{BuiltIn}
+use Rattle.machine.specs.Dictionary.{Dictionary, Row, Class, new_dictionary}
+use Rattle.dictionary.specs.Meant.{place}
+use Rattle.dictionary.proofs.Originals.{flag, listed, all_up}
+
+abbrev pub parts : (BuiltIn → Bool) → List Row → List Class → Dictionary
+parts originals rows classes = record { originals = originals; rows = rows; classes = classes }
+
+pub same_parts : (o p : BuiltIn → Bool) (rs ss : List Row) (cs ds : List Class) → ((f : BuiltIn) → o f ≡ p f) → rs ≡ ss → cs ≡ ds → parts o rs cs ≡ parts p ss ds
+same_parts o p rs ss cs ds eo er ec = λ i. parts (λ f. eo f i) (er i) (ec i)
+
+pub as_new : (flags : List Bool) (rs : List Row) (cs : List Class) → ((f : BuiltIn) → flag flags f ≡ true) → rs ≡ [] → cs ≡ [] → parts (flag flags) rs cs ≡ new_dictionary
+unfolding new_dictionary
+as_new flags rs cs e er ec = same_parts (flag flags) (λ f. true) rs [] cs [] e er ec

@@ -1,0 +1,11 @@
+// The dictionary of a processor: its strings, copied and original built-ins and classes. The bytes of names and bodies lie
+// in a store that the host lends for each call. It allocates when it is made, and never after.
+
+#![tactic(auto)]
+
+mod dictionary;
+mod making;
+mod rows;
+
+pub use dictionary::Dictionary;
+pub use rows::{ClassRow, Extent, Row, RowMeaning};
