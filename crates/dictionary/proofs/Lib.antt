@@ -2,3 +2,5 @@ pub mod Packed
 pub mod Sizes
 pub mod Originals
 pub mod Meant
+pub mod Firsts
+pub mod Standing

@@ -1,2 +1,3 @@
 pub mod Decoding
 pub mod Meant
+pub mod Finding

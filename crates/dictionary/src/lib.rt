@@ -4,6 +4,7 @@
 #![tactic(auto)]
 
 mod dictionary;
+mod finding;
 mod making;
 mod rows;
 

@@ -1,0 +1,112 @@
+-- The first element that passes a test, and the row of a name.
+use Rattle.std.proofs.Common.{◌≡◌, ℕ, zero, suc, ◌+◌, ◌<◌, ◌≤◌, Bool, true, false, cond, ◌⊎◌, List, [], ◌∷◌, ◌++◌, length, set, take, drop, Some, None, Option, sym, refl, ap, subst, ◌∙◌, inl, inr, ⊎_elim, arith}
+use Rattle.std.specs.List.{slice_get, remove}
+use Rattle.std.specs.Option.{option_map}
+use Rattle.std.specs.Str.{bytes_eq}
+use Rattle.std.proofs.lemmas.Slice.Eq.{bytes_eq-Decides}
+use Rattle.machine.specs.Texts.{Text, first_place}
+use Rattle.machine.specs.Dictionary.{Row, Class, Meaning, in_rows, with_row, without_row, in_classes, with_class, without_class}
+use Rattle.dictionary.specs.Finding.{row_named}
+
+-- the first element of a list with a head: the head, or the first of the rest
+pub record Head {X : Type 0} (f : X → Bool) (x : X) (i : ℕ) : Type 0 where
+  pub passes : f x ≡ true
+  pub place : i ≡ 0
+
+pub record Later {X : Type 0} (f : X → Bool) (x : X) (xs : List X) (i : ℕ) : Type 0 where
+  pub fails : f x ≡ false
+  pub before : ℕ
+  pub first : first_place f xs ≡ Some before
+  pub place : i ≡ suc before
+
+pub first_cases : {X : Type 0} (f : X → Bool) (x : X) (xs : List X) (i : ℕ) → first_place f (x ∷ xs) ≡ Some i → Head f x i ⊎ Later f x xs i
+first_cases {X = X} f x xs i e = go (f x) refl (first_place f xs) refl e
+  where
+    go : (t : Bool) → f x ≡ t → (o : Option ℕ) → first_place f xs ≡ o → cond t (Some 0) (option_map suc o) ≡ Some i → Head f x i ⊎ Later f x xs i
+    go true p o q w = let here : 0 ≡ i = cc in inl (record { passes = p; place = sym here })
+    go false p None q w = cc
+    go false p (Some k) q w = let here : suc k ≡ i = cc in inr (record { fails = p; before = k; first = q; place = sym here })
+
+pub record NoneOf {X : Type 0} (f : X → Bool) (x : X) (xs : List X) : Type 0 where
+  pub head : f x ≡ false
+  pub rest : first_place f xs ≡ None
+
+pub none_cases : {X : Type 0} (f : X → Bool) (x : X) (xs : List X) → first_place f (x ∷ xs) ≡ None → NoneOf f x xs
+none_cases {X = X} f x xs e = go (f x) refl (first_place f xs) refl e
+  where
+    go : (t : Bool) → f x ≡ t → (o : Option ℕ) → first_place f xs ≡ o → cond t (Some 0) (option_map suc o) ≡ None → NoneOf f x xs
+    go true p o q w = cc
+    go false p None q w = record { head = p; rest = q }
+    go false p (Some k) q w = cc
+
+-- an element that passes, and none before it does
+pub first_at : {X : Type 0} (f : X → Bool) (xs : List X) (i : ℕ) (x : X) → first_place f (take i xs) ≡ None → slice_get xs i ≡ Some x → f x ≡ true → first_place f xs ≡ Some i
+first_at f [] i x none at p = cc
+first_at f (y ∷ ys) zero x none at p =
+    let here : f y ≡ true = ap f (let same : y ≡ x = cc in same) ∙ p in
+    ap (λ t. cond t (Some 0) (option_map suc (first_place f ys))) here
+first_at f (y ∷ ys) (suc k) x none at p =
+    let before = none_cases f y (take k ys) none in
+    ap (λ t. cond t (Some 0) (option_map suc (first_place f ys))) before.head
+    ∙ ap (option_map suc) (first_at f ys k x before.rest at p)
+
+-- one more that does not pass
+pub none_more : {X : Type 0} (f : X → Bool) (xs : List X) (i : ℕ) (x : X) → first_place f (take i xs) ≡ None → slice_get xs i ≡ Some x → f x ≡ false → first_place f (take (suc i) xs) ≡ None
+none_more f [] i x none at p = cc
+none_more f (y ∷ ys) zero x none at p =
+    let here : f y ≡ false = ap f (let same : y ≡ x = cc in same) ∙ p in
+    ap (λ t. cond t (Some 0) None) here
+none_more f (y ∷ ys) (suc k) x none at p =
+    let before = none_cases f y (take k ys) none in
+    ap (λ t. cond t (Some 0) (option_map suc (first_place f (take (suc k) ys)))) before.head
+    ∙ ap (option_map suc) (none_more f ys k x before.rest at p)
+
+-- Rows by their names.
+
+abbrev row_of : Text → Meaning → Row
+row_of n m = record { name = n; meaning = m }
+
+abbrev meaning_of : Row → Meaning
+meaning_of r = r.meaning
+
+pub in_rows_at : (n : Text) (rs : List Row) (i : ℕ) → first_place (row_named n) rs ≡ Some i → in_rows n rs ≡ option_map meaning_of (slice_get rs i)
+in_rows_at n [] i e = cc
+in_rows_at n (r ∷ rs) i e =
+    ⊎_elim
+    (λ (h : Head (row_named n) r i). ap (λ t. cond t (Some r.meaning) (in_rows n rs)) h.passes ∙ ap (λ k. option_map meaning_of (slice_get (r ∷ rs) k)) (sym h.place))
+    (λ (l : Later (row_named n) r rs i). ap (λ t. cond t (Some r.meaning) (in_rows n rs)) l.fails ∙ in_rows_at n rs l.before l.first ∙ ap (λ k. option_map meaning_of (slice_get (r ∷ rs) k)) (sym l.place))
+    (first_cases (row_named n) r rs i e)
+
+pub in_rows_none : (n : Text) (rs : List Row) → first_place (row_named n) rs ≡ None → in_rows n rs ≡ None
+in_rows_none n [] e = refl
+in_rows_none n (r ∷ rs) e =
+    let none = none_cases (row_named n) r rs e in
+    ap (λ t. cond t (Some r.meaning) (in_rows n rs)) none.head ∙ in_rows_none n rs none.rest
+
+pub with_row_at : (n : Text) (m : Meaning) (rs : List Row) (i : ℕ) → first_place (row_named n) rs ≡ Some i → with_row n m rs ≡ set rs i (row_of n m)
+with_row_at n m [] i e = cc
+with_row_at n m (r ∷ rs) i e =
+    ⊎_elim
+    (λ (h : Head (row_named n) r i). ap (λ t. cond t (row_of n m ∷ rs) (r ∷ with_row n m rs)) h.passes ∙ ap (λ k. set (r ∷ rs) k (row_of n m)) (sym h.place))
+    (λ (l : Later (row_named n) r rs i). ap (λ t. cond t (row_of n m ∷ rs) (r ∷ with_row n m rs)) l.fails ∙ ap (λ x. r ∷ x) (with_row_at n m rs l.before l.first) ∙ ap (λ k. set (r ∷ rs) k (row_of n m)) (sym l.place))
+    (first_cases (row_named n) r rs i e)
+
+pub with_row_new : (n : Text) (m : Meaning) (rs : List Row) → first_place (row_named n) rs ≡ None → with_row n m rs ≡ rs ++ row_of n m ∷ []
+with_row_new n m [] e = refl
+with_row_new n m (r ∷ rs) e =
+    let none = none_cases (row_named n) r rs e in
+    ap (λ t. cond t (row_of n m ∷ rs) (r ∷ with_row n m rs)) none.head ∙ ap (λ x. r ∷ x) (with_row_new n m rs none.rest)
+
+pub without_row_at : (n : Text) (rs : List Row) (i : ℕ) → first_place (row_named n) rs ≡ Some i → without_row n rs ≡ remove rs i
+without_row_at n [] i e = cc
+without_row_at n (r ∷ rs) i e =
+    ⊎_elim
+    (λ (h : Head (row_named n) r i). ap (λ t. cond t rs (r ∷ without_row n rs)) h.passes ∙ ap (λ k. remove (r ∷ rs) k) (sym h.place))
+    (λ (l : Later (row_named n) r rs i). ap (λ t. cond t rs (r ∷ without_row n rs)) l.fails ∙ ap (λ x. r ∷ x) (without_row_at n rs l.before l.first) ∙ ap (λ k. remove (r ∷ rs) k) (sym l.place))
+    (first_cases (row_named n) r rs i e)
+
+pub without_row_none : (n : Text) (rs : List Row) → first_place (row_named n) rs ≡ None → without_row n rs ≡ rs
+without_row_none n [] e = refl
+without_row_none n (r ∷ rs) e =
+    let none = none_cases (row_named n) r rs e in
+    ap (λ t. cond t rs (r ∷ without_row n rs)) none.head ∙ ap (λ x. r ∷ x) (without_row_none n rs none.rest)
