@@ -110,3 +110,18 @@ without_row_none n [] e = refl
 without_row_none n (r ∷ rs) e =
     let none = none_cases (row_named n) r rs e in
     ap (λ t. cond t rs (r ∷ without_row n rs)) none.head ∙ ap (λ x. r ∷ x) (without_row_none n rs none.rest)
+
+-- what is found first passes
+pub first_passes : {X : Type 0} (f : X → Bool) (xs : List X) (i : ℕ) (x : X) → first_place f xs ≡ Some i → slice_get xs i ≡ Some x → f x ≡ true
+first_passes f [] i x e at = cc
+first_passes {X = X} f (y ∷ ys) i x e at =
+    ⊎_elim
+    (λ (h : Head f y i). let here : y ≡ x = head (slice_at h.place) in ap f (sym here) ∙ h.passes)
+    (λ (l : Later f y ys i). first_passes f ys l.before x l.first (slice_at l.place))
+    (first_cases f y ys i e)
+  where
+    slice_at : {k : ℕ} → i ≡ k → slice_get (y ∷ ys) k ≡ Some x
+    slice_at {k} same = ap (slice_get (y ∷ ys)) (sym same) ∙ at
+
+    head : slice_get (y ∷ ys) 0 ≡ Some x → y ≡ x
+    head h = cc

@@ -4,3 +4,5 @@ pub mod Originals
 pub mod Meant
 pub mod Firsts
 pub mod Standing
+pub mod Edited
+pub mod Changed

@@ -1,6 +1,6 @@
 -- Entries that lie one behind the other.
 use Rattle.std.proofs.Common.{◌≡◌, ℕ, zero, suc, ◌+◌, ◌-◌, ◌<◌, ◌≤◌, List, [], ◌∷◌, ◌++◌, length, take, drop, Some, None, sym, refl, ap, ◌∙◌, arith, length-drop, length-append}
-use Rattle.std.specs.List.{slice_get, sum_by}
+use Rattle.std.specs.List.{slice_get, sum_by, splice}
 use Rattle.std.specs.Option.{option_map}
 use Rattle.std.proofs.lemmas.List.{drop-drop, take-append-le, drop-append-le, nil_from_length, take-append-drop, take_at, length-take-le, drop_at, append_assoc}
 use Rattle.std.proofs.lemmas.List.Sums.{sum_by-cons, sum_by-append, sum_by-take-le}
@@ -87,13 +87,11 @@ take_packed {E = E} {X = X} size read i es bs framed h l =
     sym (ap (take i) whole ∙ take_at front rest i (length_packed size read (take i es) (take o bs) ∙ length-take-le i es h))
 
 -- the entries from i to j give way to others
-pub replaced : {E X : Type 0} (size : E → ℕ) (read : E → List ℕ → X) (i j : ℕ) (es fs : List E) (bs cs : List ℕ) → Framed size read → i ≤ length es → sum_by size (take i es) ≤ length bs → sum_by size fs ≡ length cs → packed size read (take i es ++ fs ++ drop j es) (take (sum_by size (take i es)) bs ++ cs ++ drop (sum_by size (take j es)) bs) ≡ take i (packed size read es bs) ++ packed size read fs cs ++ drop j (packed size read es bs)
+pub replaced : {E X : Type 0} (size : E → ℕ) (read : E → List ℕ → X) (i j : ℕ) (es fs : List E) (bs cs : List ℕ) → Framed size read → i ≤ length es → sum_by size (take i es) ≤ length bs → sum_by size fs ≡ length cs → packed size read (splice es i j fs) (splice bs (sum_by size (take i es)) (sum_by size (take j es)) cs) ≡ splice (packed size read es bs) i j (packed size read fs cs)
 replaced {E = E} {X = X} size read i j es fs bs cs framed h l filled =
     let o : ℕ = sum_by size (take i es) in
     let p : ℕ = sum_by size (take j es) in
-    let front : sum_by size (take i es ++ fs) ≡ length (take o bs ++ cs) =
-    sum_by-append size (take i es) fs ∙ omega (arith, length-append (take o bs) cs, length-take-le o bs l) in
-    packed_++ size read (take i es ++ fs) (drop j es) (take o bs ++ cs) (drop p bs) framed front
-    ∙ ap (λ (x : List X). x ++ packed size read (drop j es) (drop p bs)) (packed_++ size read (take i es) fs (take o bs) cs framed (sym (length-take-le o bs l)))
-    ∙ ap (λ (x : List X). x ++ packed size read fs cs ++ packed size read (drop j es) (drop p bs)) (take_packed size read i es bs framed h l)
-    ∙ ap (λ (x : List X). take i (packed size read es bs) ++ packed size read fs cs ++ x) (sym (drop_packed size read j es bs))
+    packed_++ size read (take i es) (fs ++ drop j es) (take o bs) (cs ++ drop p bs) framed (sym (length-take-le o bs l))
+    ∙ ap (λ (x : List X). packed size read (take i es) (take o bs) ++ x) (packed_++ size read fs (drop j es) cs (drop p bs) framed filled)
+    ∙ ap (λ (x : List X). x ++ (packed size read fs cs ++ packed size read (drop j es) (drop p bs))) (take_packed size read i es bs framed h l)
+    ∙ ap (λ (x : List X). take i (packed size read es bs) ++ (packed size read fs cs ++ x)) (sym (drop_packed size read j es bs))
