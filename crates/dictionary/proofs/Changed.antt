@@ -3,12 +3,12 @@ use Rattle.std.proofs.Common.{◌≡◌, ℕ, zero, suc, ◌+◌, ◌-◌, ◌<�
 use Rattle.std.specs.Prelude.{vec_items, vec_len}
 use Rattle.std.specs.List.{sum_by, splice, remove, slice_get}
 use Rattle.std.specs.Str.{bytes_eq}
-use Rattle.std.proofs.lemmas.List.{take-append-drop, take_all, drop_all, drop-drop, drop_at, length-take-le, take_at, drop-append-le, take-append-le, drop-take, take-take}
+use Rattle.std.proofs.lemmas.List.{take-append-drop, take_all, drop_all, drop-drop, drop_at, length-take-le, take_at, drop-append-le, take-append-le, drop-take, take-take, get_or_push}
 use Rattle.std.proofs.lemmas.List.Sums.{sum_by-cons}
-use Rattle.std.proofs.lemmas.Option.{slice_get_within}
+use Rattle.std.proofs.lemmas.Option.{slice_get_within, slice_get-get_or}
 use Rattle.std.proofs.lemmas.Slice.Eq.{bytes_eq-Decides}
 use Rattle.machine.specs.Texts.{Text, first_place}
-use Rattle.machine.specs.Dictionary.{Meaning, with_row, without_row}
+use Rattle.machine.specs.Dictionary.{Meaning, string, new_string, with_row}
 use Rattle.machine.specs.Dictionary as machine
 use Rattle.dictionary.specs.declared.rows.Row.{Row}
 use Rattle.dictionary.specs.declared.rows.RowMeaning.{RowMeaning}
@@ -16,11 +16,11 @@ use Rattle.dictionary.specs.declared.finding.Place.{Place}
 use Rattle.dictionary.specs.declared.dictionary.Dictionary.{Dictionary}
 use Rattle.dictionary.specs.Decoding.{packed, row_size, body_size, row_in, meaning_in}
 use Rattle.dictionary.specs.Meant.{text_in, rows_in}
-use Rattle.dictionary.specs.Finding.{row_named, Standing}
+use Rattle.dictionary.specs.Finding.{row_named, RowAt, Standing, name_at, body_at}
 use Rattle.dictionary.proofs.Packed.{length_packed}
-use Rattle.dictionary.proofs.Sizes.{row_of}
-use Rattle.dictionary.proofs.Standing.{before, read}
-use Rattle.dictionary.proofs.Firsts.{with_row_at, with_row_new, without_row_at, first_passes}
+use Rattle.dictionary.specs.Editing.{row_of}
+use Rattle.dictionary.proofs.Located.{before, read}
+use Rattle.dictionary.proofs.Firsts.{with_row_new, first_passes, first_last, same_name}
 use Rattle.dictionary.proofs.Edited.{Edited, edited, set_spliced, remove_spliced, push_spliced, splice_inside, length-splice}
 
 -- the same edit, of rows that are known otherwise
@@ -47,16 +47,16 @@ row_changed d store p r rows row_bytes text bytes h at start size rows_are text_
     (omega (arith, there.next)))
 
 -- one row and its bytes go
-pub row_removed : (d : Dictionary) (store : List ℕ) (p : Place) (n : Text) (rows : List Row) (row_bytes : ℕ) (text : List ℕ) → d.used ≤ length store → Standing d store n p → rows ≡ remove (vec_items d.rows) p.index → text ≡ splice (text_in d store) p.start (p.start + row_size p.row) [] → row_bytes + row_size p.row ≡ d.row_bytes → Edited d store rows row_bytes text (without_row n (rows_in d store))
-row_removed d store p n rows row_bytes text h stands rows_are text_is bytes_are =
+pub row_removed : (d : Dictionary) (store : List ℕ) (p : Place) (rows : List Row) (row_bytes : ℕ) (text : List ℕ) → d.used ≤ length store → RowAt d p → rows ≡ remove (vec_items d.rows) p.index → text ≡ splice (text_in d store) p.start (p.start + row_size p.row) [] → row_bytes + row_size p.row ≡ d.row_bytes → Edited d store rows row_bytes text (remove (rows_in d store) p.index)
+row_removed d store p rows row_bytes text h at rows_are text_is bytes_are =
     let i : ℕ = p.index in
-    let there = read d store i p.row stands.row h in
-    let within : i < length (vec_items d.rows) = slice_get_within (vec_items d.rows) i p.row stands.row in
-    let ends : p.start + row_size p.row ≡ before d (i + 1) = omega (arith, there.next, stands.start) in
-    meant_so d store rows row_bytes text _ _ (sym (without_row_at n (rows_in d store) i stands.first ∙ remove_spliced (rows_in d store) i))
+    let there = read d store i p.row at.row h in
+    let within : i < length (vec_items d.rows) = slice_get_within (vec_items d.rows) i p.row at.row in
+    let ends : p.start + row_size p.row ≡ before d (i + 1) = omega (arith, there.next, at.start) in
+    meant_so d store rows row_bytes text _ _ (sym (remove_spliced (rows_in d store) i))
     (edited d store i (i + 1) rows [] row_bytes text [] h (omega arith) (omega arith) refl
     (rows_are ∙ remove_spliced (vec_items d.rows) i)
-    (text_is ∙ ap (λ k. splice (text_in d store) k (p.start + row_size p.row) []) stands.start ∙ ap (λ k. splice (text_in d store) (before d i) k []) ends)
+    (text_is ∙ ap (λ k. splice (text_in d store) k (p.start + row_size p.row) []) at.start ∙ ap (λ k. splice (text_in d store) (before d i) k []) ends)
     (omega (arith, there.next)))
 
 -- one row comes last
@@ -75,10 +75,6 @@ row_added d store r n m rows row_bytes text bytes h none size is rows_are text_i
     (omega arith))
 
 -- Bodies.
-
--- the bytes of a row's body, as they lie in the store
-abbrev pub body_at : Place → List ℕ → List ℕ
-body_at p store = take (body_size p.row.meaning) (drop (p.start + p.row.name) store)
 
 -- a splice behind a front is a splice of what lies behind it
 splice_behind : {X : Type 0} (xs : List X) (a u v : ℕ) (ys : List X) → a + u ≤ length xs → take a (splice xs (a + u) (a + v) ys) ≡ take a xs
@@ -102,14 +98,15 @@ part_of_text d store a n h =
     ap (λ k. take n (drop a (take k store))) whole ∙ ap (take n) (drop-take a rest store) ∙ take-take n rest (drop a store) (omega arith)
 
 -- the part from u to v of the body gives way to others, and the row means that from now on
-pub body_changed : (d : Dictionary) (store : List ℕ) (p : Place) (m : RowMeaning) (u v : ℕ) (rows : List Row) (row_bytes : ℕ) (text piece : List ℕ) → d.used ≤ length store → slice_get (vec_items d.rows) p.index ≡ Some p.row → p.start ≡ before d p.index → u ≤ v → v ≤ body_size p.row.meaning → body_size m + (v - u) ≡ body_size p.row.meaning + length piece → rows ≡ set (vec_items d.rows) p.index (record { name = p.row.name; meaning = m }) → text ≡ splice (text_in d store) (p.start + p.row.name + u) (p.start + p.row.name + v) piece → row_bytes + (v - u) ≡ d.row_bytes + length piece → Edited d store rows row_bytes text (set (rows_in d store) p.index (row_of (take p.row.name (drop p.start store)) (meaning_in m (splice (body_at p store) u v piece))))
-body_changed d store p m u v rows row_bytes text piece h at start uv vl size rows_are text_is bytes_are =
+pub body_changed : (d : Dictionary) (store : List ℕ) (p : Place) (m : RowMeaning) (u v : ℕ) (rows : List Row) (row_bytes : ℕ) (text piece : List ℕ) → d.used ≤ length store → RowAt d p → u ≤ v → v ≤ body_size p.row.meaning → body_size m + (v - u) ≡ body_size p.row.meaning + length piece → rows ≡ set (vec_items d.rows) p.index (record { name = p.row.name; meaning = m }) → text ≡ splice (text_in d store) (p.start + p.row.name + u) (p.start + p.row.name + v) piece → row_bytes + (v - u) ≡ d.row_bytes + length piece → Edited d store rows row_bytes text (set (rows_in d store) p.index (row_of (name_at p store) (meaning_in m (splice (body_at p store) u v piece))))
+body_changed d store p m u v rows row_bytes text piece h at uv vl size rows_are text_is bytes_are =
     let i : ℕ = p.index in
     let a : ℕ = p.start in
     let n : ℕ = p.row.name in
     let t : List ℕ = text_in d store in
     let whole : ℕ = row_size p.row in
-    let there = read d store i p.row at h in
+    let there = read d store i p.row at.row h in
+    let start = at.start in
     let used : a + whole ≤ d.used = omega (arith, d.classes_filled) in
     let tl : length t ≡ d.used = length-take-le d.used store h in
     let slot : List ℕ = take whole (drop a t) in
@@ -119,24 +116,45 @@ body_changed d store p m u v rows row_bytes text piece h at start uv vl size row
     let bytes_len : length bytes + (n + v) ≡ whole + length piece + (n + u) = length-splice slot (n + u) (n + v) piece (omega arith) (omega arith) ∙ ap (λ k. k + length piece + (n + u)) slot_len in
     let r : Row = record { name = n; meaning = m } in
     let text_so : text ≡ splice t a (a + whole) bytes =
-        text_is
-        ∙ ap (λ k. splice t k (a + n + v) piece) (let same : a + n + u ≡ a + (n + u) = omega arith in same)
-        ∙ ap (λ k. splice t (a + (n + u)) k piece) (let same : a + n + v ≡ a + (n + v) = omega arith in same)
-        ∙ splice_inside t a whole (n + u) (n + v) piece (omega arith) (omega arith) (omega arith) in
+    text_is
+    ∙ ap (λ k. splice t k (a + n + v) piece) (let same : a + n + u ≡ a + (n + u) = omega arith in same)
+    ∙ ap (λ k. splice t (a + (n + u)) k piece) (let same : a + n + v ≡ a + (n + v) = omega arith in same)
+    ∙ splice_inside t a whole (n + u) (n + v) piece (omega arith) (omega arith) (omega arith) in
     let names : take n bytes ≡ take n (drop a store) =
-        splice_behind slot n u v piece (omega arith) ∙ ap (take n) slot_is ∙ take-take n whole (drop a store) (omega arith) in
+    splice_behind slot n u v piece (omega arith) ∙ ap (take n) slot_is ∙ take-take n whole (drop a store) (omega arith) in
     let bodies : drop n bytes ≡ splice (body_at p store) u v piece =
-        splice_rest slot n u v piece (omega arith)
-        ∙ ap (λ (l : List ℕ). splice l u v piece)
-        (ap (drop n) slot_is ∙ drop-take n (body_size p.row.meaning) (drop a store) ∙ ap (take (body_size p.row.meaning)) (drop-drop n a store)) in
+    splice_rest slot n u v piece (omega arith)
+    ∙ ap (λ (l : List ℕ). splice l u v piece)
+    (ap (drop n) slot_is ∙ drop-take n (body_size p.row.meaning) (drop a store) ∙ ap (take (body_size p.row.meaning)) (drop-drop n a store)) in
     meant_so d store rows row_bytes text _ _
     (ap (λ (x : machine.Row). set (rows_in d store) i x)
     (ap (λ (x : List ℕ). row_of x (meaning_in m (drop n bytes))) names ∙ ap (λ (x : List ℕ). row_of (take n (drop a store)) (meaning_in m x)) bodies))
-    (row_changed d store p r rows row_bytes text bytes h at start (omega arith) rows_are text_so (omega arith))
+    (row_changed d store p r rows row_bytes text bytes h at.row start (omega arith) rows_are text_so (omega arith))
 
 -- the name of a row that is found
-pub name_stands : (d : Dictionary) (store : List ℕ) (n : Text) (p : Place) → d.used ≤ length store → Standing d store n p → take p.row.name (drop p.start store) ≡ n
+pub name_stands : (d : Dictionary) (store : List ℕ) (n : Text) (p : Place) → d.used ≤ length store → Standing d store n p → name_at p store ≡ n
 name_stands d store n p h stands =
-    let there = read d store p.index p.row stands.row h in
+    let there = read d store p.index p.row stands.at.row h in
     let passes = first_passes (row_named n) (rows_in d store) p.index _ stands.first there.there in
-    ap (λ k. take p.row.name (drop k store)) stands.start ∙ (bytes_eq-Decides (take p.row.name (drop (before d p.index) store)) n).0 passes
+    ap (λ k. take p.row.name (drop k store)) stands.at.start ∙ (bytes_eq-Decides (take p.row.name (drop (before d p.index) store)) n).0 passes
+
+-- a row of an empty string, behind the others
+pub empty_added : (d : Dictionary) (store : List ℕ) (r : Row) (n : Text) (rows : List Row) (row_bytes : ℕ) (text : List ℕ) → d.used ≤ length store → first_place (row_named n) (rows_in d store) ≡ None → row_size r ≡ length n → row_in r n ≡ row_of (take (length n) n) (string (new_string [])) → rows ≡ vec_items d.rows ++ r ∷ [] → text ≡ splice (text_in d store) d.row_bytes d.row_bytes n → row_bytes ≡ d.row_bytes + length n → Edited d store rows row_bytes text (with_row n (string (new_string [])) (rows_in d store))
+empty_added d store r n rows row_bytes text h none size is rows_are text_is bytes_are =
+    row_added d store r n (string (new_string [])) rows row_bytes text n h none size (is ∙ ap (λ x. row_of x (string (new_string []))) (take_all (length n) n (omega arith))) rows_are text_is bytes_are
+
+pub first_added : (d : Dictionary) (store : List ℕ) (n : Text) (m : Meaning) (k : ℕ) (rows : List machine.Row) → first_place (row_named n) (rows_in d store) ≡ None → rows ≡ with_row n m (rows_in d store) → k ≡ length (vec_items d.rows) → first_place (row_named n) rows ≡ Some k
+first_added d store n m k rows none rows_are count =
+    ap (first_place (row_named n)) (rows_are ∙ with_row_new n m (rows_in d store) none)
+    ∙ first_last (row_named n) (rows_in d store) (row_of n m) none (same_name n m)
+    ∙ ap (λ j. Some j) (counted d store ∙ sym count)
+
+pub row_last : (es : List Row) (r : Row) (rows : List Row) (k : ℕ) → rows ≡ es ++ r ∷ [] → k ≡ length es → slice_get rows k ≡ Some r
+row_last es r rows k rows_are count =
+    ap (λ (l : List Row). slice_get l k) rows_are
+    ∙ slice_get-get_or (es ++ r ∷ []) k r (omega (arith, length-append es (r ∷ [])))
+    ∙ ap (λ x. Some x) (get_or_push es r r k (sym count))
+
+pub start_last : (d : Dictionary) (r : Row) (rows : List Row) (k : ℕ) → rows ≡ vec_items d.rows ++ r ∷ [] → k ≡ length (vec_items d.rows) → d.row_bytes ≡ sum_by row_size (take k rows)
+start_last d r rows k rows_are count =
+    d.rows_filled ∙ ap (sum_by row_size) (sym (ap (take k) rows_are ∙ take_at (vec_items d.rows) (r ∷ []) k (sym count)))

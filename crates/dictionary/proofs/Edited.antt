@@ -12,7 +12,7 @@ use Rattle.dictionary.specs.Decoding.{packed, row_size, row_in, class_size, clas
 use Rattle.dictionary.specs.Meant.{text_in, rows_in}
 use Rattle.dictionary.proofs.Packed.{replaced, length_packed}
 use Rattle.dictionary.proofs.Sizes.{rows_framed}
-use Rattle.dictionary.proofs.Standing.{before}
+use Rattle.dictionary.proofs.Located.{before}
 
 -- Splices.
 
@@ -47,9 +47,9 @@ splice_inside {X = X} xs a n x y ys hx hy l =
     let whole : drop a xs ≡ slot ++ drop (a + n) xs = sym (take-append-drop n (drop a xs)) ∙ ap (λ (l : List X). slot ++ l) (drop-drop n a xs) in
     let slot_len : length slot ≡ n = length-take-le n (drop a xs) (rw length-drop (omega arith)) in
     let front : take (a + x) xs ≡ take a xs ++ take x slot =
-        take-add a x xs ∙ ap (λ (l : List X). take a xs ++ take x l) whole ∙ ap (λ (l : List X). take a xs ++ l) (take-append-le x slot (drop (a + n) xs) (omega arith)) in
+    take-add a x xs ∙ ap (λ (l : List X). take a xs ++ take x l) whole ∙ ap (λ (l : List X). take a xs ++ l) (take-append-le x slot (drop (a + n) xs) (omega arith)) in
     let behind : drop (a + y) xs ≡ drop y slot ++ drop (a + n) xs =
-        sym (drop-drop y a xs) ∙ ap (drop y) whole ∙ drop-append-le y slot (drop (a + n) xs) (omega arith) in
+    sym (drop-drop y a xs) ∙ ap (drop y) whole ∙ drop-append-le y slot (drop (a + n) xs) (omega arith) in
     ap (λ (l : List X). l ++ (ys ++ drop (a + y) xs)) front
     ∙ ap (λ (l : List X). take a xs ++ take x slot ++ (ys ++ l)) behind
     ∙ append_assoc (take a xs) (take x slot) (ys ++ (drop y slot ++ drop (a + n) xs))

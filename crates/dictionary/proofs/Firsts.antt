@@ -7,6 +7,7 @@ use Rattle.std.proofs.lemmas.Slice.Eq.{bytes_eq-Decides}
 use Rattle.machine.specs.Texts.{Text, first_place}
 use Rattle.machine.specs.Dictionary.{Row, Class, Meaning, in_rows, with_row, without_row, in_classes, with_class, without_class}
 use Rattle.dictionary.specs.Finding.{row_named}
+use Rattle.dictionary.specs.Editing.{row_of}
 
 -- the first element of a list with a head: the head, or the first of the rest
 pub record Head {X : Type 0} (f : X → Bool) (x : X) (i : ℕ) : Type 0 where
@@ -62,9 +63,6 @@ none_more f (y ∷ ys) (suc k) x none at p =
     ∙ ap (option_map suc) (none_more f ys k x before.rest at p)
 
 -- Rows by their names.
-
-abbrev row_of : Text → Meaning → Row
-row_of n m = record { name = n; meaning = m }
 
 abbrev meaning_of : Row → Meaning
 meaning_of r = r.meaning
@@ -125,3 +123,24 @@ first_passes {X = X} f (y ∷ ys) i x e at =
 
     head : slice_get (y ∷ ys) 0 ≡ Some x → y ≡ x
     head h = cc
+
+-- one that passes comes behind others that do not
+pub first_last : {X : Type 0} (f : X → Bool) (xs : List X) (x : X) → first_place f xs ≡ None → f x ≡ true → first_place f (xs ++ x ∷ []) ≡ Some (length xs)
+first_last f [] x none p = ap (λ t. cond t (Some 0) None) p
+first_last f (y ∷ ys) x none p =
+    let before = none_cases f y ys none in
+    ap (λ t. cond t (Some 0) (option_map suc (first_place f (ys ++ x ∷ [])))) before.head
+    ∙ ap (option_map suc) (first_last f ys x before.rest p)
+
+pub same_name : (n : Text) (m : Meaning) → row_named n (row_of n m) ≡ true
+same_name n m = (bytes_eq-Decides n n).1 refl
+
+-- defining a name twice
+pub with_row_twice : (n : Text) (m k : Meaning) (rs : List Row) → with_row n m (with_row n k rs) ≡ with_row n m rs
+with_row_twice n m k [] = ap (λ t. cond t (row_of n m ∷ []) (row_of n k ∷ row_of n m ∷ [])) (same_name n k)
+with_row_twice n m k (r ∷ rs) = go (bytes_eq r.name n) refl (with_row_twice n m k rs)
+  where
+    go : (t : Bool) → bytes_eq r.name n ≡ t → with_row n m (with_row n k rs) ≡ with_row n m rs →
+        with_row n m (cond t (row_of n k ∷ rs) (r ∷ with_row n k rs)) ≡ cond t (row_of n m ∷ rs) (r ∷ with_row n m rs)
+    go true e h = ap (λ t. cond t (row_of n m ∷ rs) (row_of n k ∷ with_row n m rs)) (same_name n k)
+    go false e h = ap (λ t. cond t (row_of n m ∷ with_row n k rs) (r ∷ with_row n m (with_row n k rs))) e ∙ ap (λ x. r ∷ x) h

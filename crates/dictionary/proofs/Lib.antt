@@ -3,6 +3,7 @@ pub mod Sizes
 pub mod Originals
 pub mod Meant
 pub mod Firsts
-pub mod Standing
+pub mod Located
 pub mod Edited
 pub mod Changed
+pub mod Rooms

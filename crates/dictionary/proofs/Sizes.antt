@@ -13,13 +13,11 @@ use Rattle.dictionary.specs.declared.rows.RowMeaning.TheVariants as stored
 use Rattle.dictionary.specs.declared.dictionary.Dictionary.{Dictionary}
 use Rattle.dictionary.specs.Decoding.{packed, body_size, row_size, class_size, meaning_in, row_in, class_in}
 use Rattle.dictionary.specs.Meant.{text_in, rows_in, classes_in, dictionary_in}
+use Rattle.dictionary.specs.Editing.{row_of}
 use Rattle.dictionary.proofs.Packed.{Framed, length_packed}
 
 abbrev string_of : List ℕ → ℕ → Meaning
 string_of body pointer = string (record { body = body; pointer = pointer })
-
-abbrev pub row_of : List ℕ → Meaning → machine.Row
-row_of name meaning = record { name = name; meaning = meaning }
 
 meaning_framed : (m : RowMeaning) (bs cs : List ℕ) → body_size m ≤ length bs → meaning_in m (bs ++ cs) ≡ meaning_in m bs
 meaning_framed (stored.String s) bs cs h = ap (λ (x : List ℕ). string_of x s.pointer) (take-append-le s.length bs cs h)
@@ -61,7 +59,7 @@ row_measure r = length r.name + length (body_of r.meaning)
 abbrev pub class_measure : Class → ℕ
 class_measure c = length c.name
 
-body_measured : (m : RowMeaning) (bs : List ℕ) → body_size m ≤ length bs → length (body_of (meaning_in m bs)) ≡ body_size m
+pub body_measured : (m : RowMeaning) (bs : List ℕ) → body_size m ≤ length bs → length (body_of (meaning_in m bs)) ≡ body_size m
 body_measured (stored.String s) bs h = length-take-le s.length bs h
 body_measured (stored.BuiltIn f) bs h = refl
 

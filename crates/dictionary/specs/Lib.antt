@@ -1,3 +1,4 @@
 pub mod Decoding
 pub mod Meant
 pub mod Finding
+pub mod Editing

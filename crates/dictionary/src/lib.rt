@@ -4,9 +4,11 @@
 #![tactic(auto)]
 
 mod dictionary;
+mod editing;
 mod finding;
 mod making;
 mod rows;
+mod standing;
 
 pub use dictionary::Dictionary;
 pub use rows::{ClassRow, Extent, Row, RowMeaning};

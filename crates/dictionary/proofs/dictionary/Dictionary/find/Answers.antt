@@ -1,5 +1,5 @@
 use Rattle.std.proofs.Common.{sym, ◌∙◌, arith}
-use Rattle.dictionary.proofs.Standing.{come, read, found, passed, none_named}
+use Rattle.dictionary.proofs.Located.{come, read, found, passed, none_named}
 use Rattle.dictionary.proofs.dictionary.Dictionary.find.Goals as goal
 
 pub returns-then-eq : goal.returns-then-eq

@@ -10,10 +10,11 @@ use Rattle.std.proofs.lemmas.Option.{slice_get_within, get_or_from_slice_get, sl
 use Rattle.machine.specs.Texts.{Text, first_place}
 use Rattle.machine.specs.Dictionary as machine
 use Rattle.dictionary.specs.declared.rows.Row.{Row}
+use Rattle.dictionary.specs.declared.finding.Place.{Place}
 use Rattle.dictionary.specs.declared.dictionary.Dictionary.{Dictionary}
 use Rattle.dictionary.specs.Decoding.{packed, row_size, row_in}
 use Rattle.dictionary.specs.Meant.{text_in, rows_in}
-use Rattle.dictionary.specs.Finding.{row_named, Standing}
+use Rattle.dictionary.specs.Finding.{row_named, RowAt, Standing}
 use Rattle.dictionary.proofs.Packed.{packed_front, nth_packed, length_packed}
 use Rattle.dictionary.proofs.Sizes.{rows_framed}
 use Rattle.dictionary.proofs.Firsts.{first_at, none_more}
@@ -73,8 +74,7 @@ found d store n i start r come h =
     let there = read d store i r come.at come.whole in
     record {
       first = first_at (row_named n) (rows_in d store) i _ come.none there.there (named_so d store n i start r true come.start_is h);
-      row = come.at;
-      start = come.start_is;
+      at = record { row = come.at; start = come.start_is };
     }
 
 pub passed : (d : Dictionary) (store : List ℕ) (n : Text) (i start : ℕ) (r : Row) → Come d store n i start r → bytes_eq (take ((start + r.name) - start) (drop start store)) n ≡ false → first_place (row_named n) (take (i + 1) (rows_in d store)) ≡ None
@@ -88,3 +88,17 @@ pub none_named : (d : Dictionary) (store : List ℕ) (n : Text) (i : ℕ) → le
 none_named d store n i h none =
     let l : length (rows_in d store) ≡ length (vec_items d.rows) = length_packed row_size row_in (vec_items d.rows) (text_in d store) in
     ap (first_place (row_named n)) (sym (take_all i (rows_in d store) (omega arith))) ∙ none
+
+-- where a row lies
+pub record Spot (d : Dictionary) (p : Place) : Type 0 where
+  pub index : p.index < vec_len d.rows
+  pub within : p.start + row_size p.row ≤ d.row_bytes
+  pub used : d.row_bytes ≤ d.used
+
+pub spot : (d : Dictionary) (p : Place) → RowAt d p → Spot d p
+spot d p at =
+    record {
+      index = omega (arith, slice_get_within (vec_items d.rows) p.index p.row at.row, d.rows.ok.0);
+      within = omega (arith, sum_next row_size (vec_items d.rows) p.index p.row at.row, sum_by-take-le row_size (vec_items d.rows) (p.index + 1), d.rows_filled, at.start);
+      used = omega (arith, d.classes_filled);
+    }

@@ -1,0 +1,44 @@
+// Edits of rows, each with its bytes.
+ghost use Rattle.std.specs.Prelude.{◌≡◌, ◌+◌, ◌-◌, ◌<◌, ◌≤◌, length, slice_set, vec_len};
+ghost use Rattle.std.specs.List.{splice};
+ghost use Rattle.dictionary.specs.Decoding.{body_size, meaning_in};
+ghost use Rattle.dictionary.specs.Meant.{rows_in};
+ghost use Rattle.dictionary.specs.Finding.{RowAt, name_at, body_at};
+ghost use Rattle.dictionary.specs.Editing.{row_of, RowsEdited};
+
+use crate::dictionary::Dictionary;
+use crate::finding::Place;
+use crate::rows::{Row, RowMeaning};
+use area::splice;
+use std::ops::Range;
+
+impl Dictionary {
+    // A part of a body gives way to a piece, and the row means that from now on.
+    pub(crate) fn edit(
+        &mut self,
+        store: &mut [u8],
+        place: Place,
+        part: Range<usize>,
+        piece: &[u8],
+        meaning: RowMeaning,
+    )
+        requires whole { self.old.used ≤ length store.old }
+        requires place { RowAt self.old place }
+        requires part { (part.start ≤ part.end) × (part.end ≤ body_size place.row.meaning) }
+        requires size { body_size meaning + (part.end - part.start) ≡ body_size place.row.meaning + length piece.now }
+        requires fits { self.old.used - (part.end - part.start) + length piece.now ≤ length store.old }
+        ensures row { rows_in self.new store.new ≡ slice_set (rows_in self.old store.old) place.index (row_of (name_at place store.old) (meaning_in meaning (splice (body_at place store.old) part.start part.end piece.now))) }
+        ensures others { RowsEdited self.old self.new store.old store.new }
+    {
+        let body = place.start + place.row.name;
+        let start = body + part.start;
+        let end = body + part.end;
+        let used = self.used;
+        self.row_bytes = self.row_bytes - (end - start) + piece.len();
+        self.used = splice(store, used, start..end, piece);
+        self.rows[place.index] = Row {
+            name: place.row.name,
+            meaning,
+        };
+    }
+}
