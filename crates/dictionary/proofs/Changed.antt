@@ -4,8 +4,8 @@ use Rattle.std.specs.Prelude.{vec_items, vec_len}
 use Rattle.std.specs.List.{sum_by, splice, remove, slice_get}
 use Rattle.std.specs.Str.{bytes_eq}
 use Rattle.std.proofs.lemmas.List.{take-append-drop, take_all, drop_all, drop-drop, drop_at, length-take-le, take_at, drop-append-le, take-append-le, drop-take, take-take, get_or_push}
-use Rattle.std.proofs.lemmas.List.Sums.{sum_by-cons}
-use Rattle.std.proofs.lemmas.Option.{slice_get_within, slice_get-get_or}
+use Rattle.std.proofs.lemmas.List.Sums.{sum_by-cons, sum_by-set}
+use Rattle.std.proofs.lemmas.Option.{slice_get_within, slice_get-get_or, get_or_from_slice_get}
 use Rattle.std.proofs.lemmas.Slice.Eq.{bytes_eq-Decides}
 use Rattle.machine.specs.Texts.{Text, first_place}
 use Rattle.machine.specs.Dictionary.{Meaning, string, new_string, with_row}
@@ -158,3 +158,8 @@ row_last es r rows k rows_are count =
 pub start_last : (d : Dictionary) (r : Row) (rows : List Row) (k : ℕ) → rows ≡ vec_items d.rows ++ r ∷ [] → k ≡ length (vec_items d.rows) → d.row_bytes ≡ sum_by row_size (take k rows)
 start_last d r rows k rows_are count =
     d.rows_filled ∙ ap (sum_by row_size) (sym (ap (take k) rows_are ∙ take_at (vec_items d.rows) (r ∷ []) k (sym count)))
+
+-- a row gives way to one of the same size
+pub same_size : (d : Dictionary) (p : Place) (r : Row) → RowAt d p → row_size r ≡ row_size p.row → d.row_bytes ≡ sum_by row_size (set (vec_items d.rows) p.index r)
+same_size d p r at same =
+    omega (arith, d.rows_filled, sum_by-set row_size (vec_items d.rows) p.index r p.row (slice_get_within (vec_items d.rows) p.index p.row at.row), ap row_size (get_or_from_slice_get (vec_items d.rows) p.index p.row p.row at.row))

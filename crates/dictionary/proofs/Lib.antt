@@ -7,3 +7,4 @@ pub mod Located
 pub mod Edited
 pub mod Changed
 pub mod Rooms
+pub mod Said

@@ -2,3 +2,4 @@ pub mod Decoding
 pub mod Meant
 pub mod Finding
 pub mod Editing
+pub mod Strings

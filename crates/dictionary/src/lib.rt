@@ -7,8 +7,12 @@ mod dictionary;
 mod editing;
 mod finding;
 mod making;
+mod removing;
 mod rows;
 mod standing;
+mod string_place;
+mod strings;
 
 pub use dictionary::Dictionary;
 pub use rows::{ClassRow, Extent, Row, RowMeaning};
+pub use string_place::StringPlace;
