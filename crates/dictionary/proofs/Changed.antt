@@ -77,13 +77,13 @@ row_added d store r n m rows row_bytes text bytes h none size is rows_are text_i
 -- Bodies.
 
 -- a splice behind a front is a splice of what lies behind it
-splice_behind : {X : Type 0} (xs : List X) (a u v : ℕ) (ys : List X) → a + u ≤ length xs → take a (splice xs (a + u) (a + v) ys) ≡ take a xs
+pub splice_behind : {X : Type 0} (xs : List X) (a u v : ℕ) (ys : List X) → a + u ≤ length xs → take a (splice xs (a + u) (a + v) ys) ≡ take a xs
 splice_behind {X = X} xs a u v ys l =
     ap (λ (l : List X). take a (l ++ (ys ++ drop (a + v) xs))) (take-add a u xs)
     ∙ ap (take a) (append_assoc (take a xs) (take u (drop a xs)) (ys ++ drop (a + v) xs))
     ∙ take_at (take a xs) (take u (drop a xs) ++ (ys ++ drop (a + v) xs)) a (length-take-le a xs (omega arith))
 
-splice_rest : {X : Type 0} (xs : List X) (a u v : ℕ) (ys : List X) → a + u ≤ length xs → drop a (splice xs (a + u) (a + v) ys) ≡ splice (drop a xs) u v ys
+pub splice_rest : {X : Type 0} (xs : List X) (a u v : ℕ) (ys : List X) → a + u ≤ length xs → drop a (splice xs (a + u) (a + v) ys) ≡ splice (drop a xs) u v ys
 splice_rest {X = X} xs a u v ys l =
     ap (λ (l : List X). drop a (l ++ (ys ++ drop (a + v) xs))) (take-add a u xs)
     ∙ ap (drop a) (append_assoc (take a xs) (take u (drop a xs)) (ys ++ drop (a + v) xs))

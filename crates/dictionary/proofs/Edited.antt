@@ -56,7 +56,7 @@ splice_inside {X = X} xs a n x y ys hx hy l =
     ∙ ap (λ (l : List X). take a xs ++ (take x slot ++ l)) (sym (append_assoc ys (drop y slot) (drop (a + n) xs)))
     ∙ ap (λ (l : List X). take a xs ++ l) (sym (append_assoc (take x slot) (ys ++ drop y slot) (drop (a + n) xs)))
 
-sum_spliced : {X : Type 0} (f : X → ℕ) (xs : List X) (i j : ℕ) (ys : List X) → sum_by f (splice xs i j ys) + sum_by f (take j xs) ≡ sum_by f xs + sum_by f ys + sum_by f (take i xs)
+pub sum_spliced : {X : Type 0} (f : X → ℕ) (xs : List X) (i j : ℕ) (ys : List X) → sum_by f (splice xs i j ys) + sum_by f (take j xs) ≡ sum_by f xs + sum_by f ys + sum_by f (take i xs)
 sum_spliced f xs i j ys =
     let whole : sum_by f xs ≡ sum_by f (take j xs) + sum_by f (drop j xs) = ap (sum_by f) (sym (take-append-drop j xs)) ∙ sum_by-append f (take j xs) (drop j xs) in
     omega (arith, sum_by-append f (take i xs) (ys ++ drop j xs), sum_by-append f ys (drop j xs))

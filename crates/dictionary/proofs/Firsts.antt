@@ -6,7 +6,7 @@ use Rattle.std.specs.Str.{bytes_eq}
 use Rattle.std.proofs.lemmas.Slice.Eq.{bytes_eq-Decides}
 use Rattle.machine.specs.Texts.{Text, first_place}
 use Rattle.machine.specs.Dictionary.{Row, Class, Meaning, in_rows, with_row, without_row, in_classes, with_class, without_class}
-use Rattle.dictionary.specs.Finding.{row_named}
+use Rattle.dictionary.specs.Finding.{row_named, class_named}
 use Rattle.dictionary.specs.Editing.{row_of}
 
 -- the first element of a list with a head: the head, or the first of the rest
@@ -144,3 +144,62 @@ with_row_twice n m k (r ∷ rs) = go (bytes_eq r.name n) refl (with_row_twice n 
         with_row n m (cond t (row_of n k ∷ rs) (r ∷ with_row n k rs)) ≡ cond t (row_of n m ∷ rs) (r ∷ with_row n m rs)
     go true e h = ap (λ t. cond t (row_of n m ∷ rs) (row_of n k ∷ with_row n m rs)) (same_name n k)
     go false e h = ap (λ t. cond t (row_of n m ∷ with_row n k rs) (r ∷ with_row n m (with_row n k rs))) e ∙ ap (λ x. r ∷ x) h
+
+-- Classes by their names.
+
+abbrev class_of : Text → List Bool → Class
+class_of n m = record { name = n; members = m }
+
+abbrev members_of : Class → List Bool
+members_of c = c.members
+
+pub in_classes_at : (n : Text) (cs : List Class) (i : ℕ) → first_place (class_named n) cs ≡ Some i → in_classes n cs ≡ option_map members_of (slice_get cs i)
+in_classes_at n [] i e = cc
+in_classes_at n (c ∷ cs) i e =
+    ⊎_elim
+    (λ (h : Head (class_named n) c i). ap (λ t. cond t (Some c.members) (in_classes n cs)) h.passes ∙ ap (λ k. option_map members_of (slice_get (c ∷ cs) k)) (sym h.place))
+    (λ (l : Later (class_named n) c cs i). ap (λ t. cond t (Some c.members) (in_classes n cs)) l.fails ∙ in_classes_at n cs l.before l.first ∙ ap (λ k. option_map members_of (slice_get (c ∷ cs) k)) (sym l.place))
+    (first_cases (class_named n) c cs i e)
+
+pub in_classes_none : (n : Text) (cs : List Class) → first_place (class_named n) cs ≡ None → in_classes n cs ≡ None
+in_classes_none n [] e = refl
+in_classes_none n (c ∷ cs) e =
+    let none = none_cases (class_named n) c cs e in
+    ap (λ t. cond t (Some c.members) (in_classes n cs)) none.head ∙ in_classes_none n cs none.rest
+
+pub with_class_at : (n : Text) (m : List Bool) (cs : List Class) (i : ℕ) → first_place (class_named n) cs ≡ Some i → with_class n m cs ≡ set cs i (class_of n m)
+with_class_at n m [] i e = cc
+with_class_at n m (c ∷ cs) i e =
+    ⊎_elim
+    (λ (h : Head (class_named n) c i). ap (λ t. cond t (class_of n m ∷ cs) (c ∷ with_class n m cs)) h.passes ∙ ap (λ k. set (c ∷ cs) k (class_of n m)) (sym h.place))
+    (λ (l : Later (class_named n) c cs i). ap (λ t. cond t (class_of n m ∷ cs) (c ∷ with_class n m cs)) l.fails ∙ ap (λ x. c ∷ x) (with_class_at n m cs l.before l.first) ∙ ap (λ k. set (c ∷ cs) k (class_of n m)) (sym l.place))
+    (first_cases (class_named n) c cs i e)
+
+pub with_class_new : (n : Text) (m : List Bool) (cs : List Class) → first_place (class_named n) cs ≡ None → with_class n m cs ≡ cs ++ class_of n m ∷ []
+with_class_new n m [] e = refl
+with_class_new n m (c ∷ cs) e =
+    let none = none_cases (class_named n) c cs e in
+    ap (λ t. cond t (class_of n m ∷ cs) (c ∷ with_class n m cs)) none.head ∙ ap (λ x. c ∷ x) (with_class_new n m cs none.rest)
+
+pub without_class_at : (n : Text) (cs : List Class) (i : ℕ) → first_place (class_named n) cs ≡ Some i → without_class n cs ≡ remove cs i
+without_class_at n [] i e = cc
+without_class_at n (c ∷ cs) i e =
+    ⊎_elim
+    (λ (h : Head (class_named n) c i). ap (λ t. cond t cs (c ∷ without_class n cs)) h.passes ∙ ap (λ k. remove (c ∷ cs) k) (sym h.place))
+    (λ (l : Later (class_named n) c cs i). ap (λ t. cond t cs (c ∷ without_class n cs)) l.fails ∙ ap (λ x. c ∷ x) (without_class_at n cs l.before l.first) ∙ ap (λ k. remove (c ∷ cs) k) (sym l.place))
+    (first_cases (class_named n) c cs i e)
+
+pub without_class_none : (n : Text) (cs : List Class) → first_place (class_named n) cs ≡ None → without_class n cs ≡ cs
+without_class_none n [] e = refl
+without_class_none n (c ∷ cs) e =
+    let none = none_cases (class_named n) c cs e in
+    ap (λ t. cond t cs (c ∷ without_class n cs)) none.head ∙ ap (λ x. c ∷ x) (without_class_none n cs none.rest)
+
+-- what is found first is there
+pub first_within : {X : Type 0} (f : X → Bool) (xs : List X) (i : ℕ) → first_place f xs ≡ Some i → i < length xs
+first_within f [] i e = cc
+first_within f (y ∷ ys) i e =
+    ⊎_elim
+    (λ (h : Head f y i). omega (arith, h.place))
+    (λ (l : Later f y ys i). omega (arith, l.place, first_within f ys l.before l.first))
+    (first_cases f y ys i e)

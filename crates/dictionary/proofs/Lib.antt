@@ -8,3 +8,4 @@ pub mod Edited
 pub mod Changed
 pub mod Rooms
 pub mod Said
+pub mod ClassRows

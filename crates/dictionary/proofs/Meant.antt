@@ -22,3 +22,7 @@ pub rows_edited : (d e : Held) (store after : List ℕ) (rows : List Row) → Ro
 rows_edited d e store after rows others rows_are =
     same_parts (flag e.originals) (flag d.originals) (rows_in e after) rows (classes_in e after) (classes_in d store)
     (λ f. ap (λ flags. flag flags f) others.originals) rows_are others.classes
+
+-- the same originals, and rows and classes that are known
+pub other_lists : (o : BuiltIn → Bool) (rs ss : List Row) (cs ds : List Class) → rs ≡ ss → cs ≡ ds → parts o rs cs ≡ parts o ss ds
+other_lists o rs ss cs ds er ec = λ i. parts o (er i) (ec i)

@@ -1,5 +1,5 @@
 -- Entries that lie one behind the other.
-use Rattle.std.proofs.Common.{◌≡◌, ℕ, zero, suc, ◌+◌, ◌-◌, ◌<◌, ◌≤◌, List, [], ◌∷◌, ◌++◌, length, take, drop, Some, None, sym, refl, ap, ◌∙◌, arith, length-drop, length-append}
+use Rattle.std.proofs.Common.{◌≡◌, ℕ, zero, suc, ◌+◌, ◌-◌, ◌<◌, ◌≤◌, List, [], ◌∷◌, ◌++◌, length, set, take, drop, Some, None, sym, refl, ap, ◌∙◌, arith, length-drop, length-append}
 use Rattle.std.specs.List.{slice_get, sum_by, splice}
 use Rattle.std.specs.Option.{option_map}
 use Rattle.std.proofs.lemmas.List.{drop-drop, take-append-le, drop-append-le, nil_from_length, take-append-drop, take_at, length-take-le, drop_at, append_assoc}
@@ -95,3 +95,15 @@ replaced {E = E} {X = X} size read i j es fs bs cs framed h l filled =
     ∙ ap (λ (x : List X). packed size read (take i es) (take o bs) ++ x) (packed_++ size read fs (drop j es) cs (drop p bs) framed filled)
     ∙ ap (λ (x : List X). x ++ (packed size read fs cs ++ packed size read (drop j es) (drop p bs))) (take_packed size read i es bs framed h l)
     ∙ ap (λ (x : List X). take i (packed size read es bs) ++ (packed size read fs cs ++ x)) (sym (drop_packed size read j es bs))
+
+-- one entry gives way to one of the same size
+pub packed_set : {E X : Type 0} (size : E → ℕ) (read : E → List ℕ → X) (i : ℕ) (es : List E) (bs : List ℕ) (e f : E) → slice_get es i ≡ Some e → size f ≡ size e → packed size read (set es i f) bs ≡ set (packed size read es bs) i (read f (drop (sum_by size (take i es)) bs))
+packed_set size read i [] bs e f at same = cc
+packed_set {X = X} size read zero (g ∷ es) bs e f at same =
+    let here : g ≡ e = cc in
+    ap (λ k. read f bs ∷ packed size read es (drop k bs)) (same ∙ ap size (sym here))
+packed_set {X = X} size read (suc k) (g ∷ es) bs e f at same =
+    let sizes : sum_by size (g ∷ take k es) ≡ size g + sum_by size (take k es) = sum_by-cons size g (take k es) in
+    ap (λ (x : List X). read g bs ∷ x) (packed_set size read k es (drop (size g) bs) e f at same)
+    ∙ ap (λ (x : List ℕ). read g bs ∷ set (packed size read es (drop (size g) bs)) k (read f x))
+    (drop-drop (sum_by size (take k es)) (size g) bs ∙ ap (λ (j : ℕ). drop j bs) (sym sizes))

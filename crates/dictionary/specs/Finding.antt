@@ -5,12 +5,21 @@ use Rattle.std.specs.Str.{bytes_eq}
 use Rattle.machine.specs.Texts.{Text, first_place}
 use Rattle.machine.specs.Dictionary as machine
 use Rattle.dictionary.specs.declared.dictionary.Dictionary.{Dictionary}
+use Rattle.dictionary.specs.declared.class_place.ClassPlace.{ClassPlace}
 use Rattle.dictionary.specs.declared.finding.Place.{Place}
-use Rattle.dictionary.specs.Decoding.{body_size, row_size}
-use Rattle.dictionary.specs.Meant.{rows_in}
+use Rattle.dictionary.specs.Decoding.{body_size, row_size, class_size}
+use Rattle.dictionary.specs.Meant.{rows_in, classes_in}
 
 abbrev pub row_named : Text → machine.Row → Bool
 row_named n r = bytes_eq r.name n
+
+abbrev pub class_named : Text → machine.Class → Bool
+class_named n c = bytes_eq c.name n
+
+-- it is the first class of that name, and its bytes begin there
+pub record ClassStanding (d : Dictionary) (store : List ℕ) (name : Text) (p : ClassPlace) : Type 0 where
+  pub first : first_place (class_named name) (classes_in d store) ≡ Some p.index
+  pub start : p.start ≡ d.row_bytes + sum_by class_size (take p.index (vec_items d.classes))
 
 -- this is that row of the dictionary, and its bytes begin there
 pub record RowAt (d : Dictionary) (p : Place) : Type 0 where

@@ -3,6 +3,8 @@
 
 #![tactic(auto)]
 
+mod class_place;
+mod classes;
 mod dictionary;
 mod editing;
 mod finding;
