@@ -90,7 +90,7 @@ class_passed d store n i start c come h =
     ap (λ k. first_place (class_named n) (take k (classes_in d store))) (add-one i)
     ∙ none_more (class_named n) (classes_in d store) i _ come.none there.there (named_so d store n i start c false come.start_is h)
 
-counted : (d : Dictionary) (store : List ℕ) → length (classes_in d store) ≡ length (vec_items d.classes)
+pub counted : (d : Dictionary) (store : List ℕ) → length (classes_in d store) ≡ length (vec_items d.classes)
 counted d store = length_packed class_size class_in (vec_items d.classes) (drop d.row_bytes (text_in d store))
 
 -- no class at all has the name

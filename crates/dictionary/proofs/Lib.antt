@@ -9,3 +9,4 @@ pub mod Changed
 pub mod Rooms
 pub mod Said
 pub mod ClassRows
+pub mod Taken

@@ -3,3 +3,4 @@ pub mod Meant
 pub mod Finding
 pub mod Editing
 pub mod Strings
+pub mod Needing

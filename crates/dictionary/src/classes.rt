@@ -14,7 +14,7 @@ use area::{remove, splice};
 
 impl Dictionary {
     // The first class of that name.
-    fn find_class(&self, store: &[u8], name: &[u8]) -> Option<ClassPlace>
+    pub(crate) fn find_class(&self, store: &[u8], name: &[u8]) -> Option<ClassPlace>
         requires { self.now.used ≤ length store.now }
         ensures { MatchOption result (first_place (class_named name.now) (classes_in self.now store.now) ≡ None) (ClassStanding self.now store.now name.now) }
     {

@@ -3,18 +3,21 @@
 
 #![tactic(auto)]
 
+mod amounts;
 mod class_place;
 mod classes;
 mod dictionary;
 mod editing;
 mod finding;
 mod making;
+mod needs;
 mod removing;
 mod rows;
 mod standing;
 mod string_place;
 mod strings;
 
+pub use amounts::{ClassNeeds, Needs};
 pub use dictionary::Dictionary;
 pub use rows::{ClassRow, Extent, Row, RowMeaning};
 pub use string_place::StringPlace;
