@@ -1,0 +1,4 @@
+pub mod Entries
+pub mod Places
+pub mod Rows
+pub mod Spelling
