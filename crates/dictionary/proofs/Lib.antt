@@ -1,6 +1,6 @@
 pub mod Packed
 pub mod Sizes
-pub mod Originals
+pub mod Flags
 pub mod Meant
 pub mod Firsts
 pub mod Located
@@ -10,3 +10,4 @@ pub mod Rooms
 pub mod Said
 pub mod ClassRows
 pub mod Taken
+pub mod Looked

@@ -4,3 +4,4 @@ pub mod Finding
 pub mod Editing
 pub mod Strings
 pub mod Needing
+pub mod LookingUp

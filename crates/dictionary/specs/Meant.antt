@@ -13,6 +13,10 @@ use Rattle.dictionary.specs.Decoding.{packed, row_size, row_in, class_size, clas
 unfoldable pub place : BuiltIn → ℕ
 place f = unwrap_or (position (λ g. bytes_eq (letters g) (letters f)) all_built_ins) 46
 
+-- does the built-in stand, by the flags in the order of the table?
+abbrev pub stands : List Bool → BuiltIn → Bool
+stands flags f = slice_index_or flags (place f) false
+
 -- the bytes in use
 abbrev pub text_in : Dictionary → List ℕ → List ℕ
 text_in d store = take d.used store
@@ -25,7 +29,7 @@ classes_in d store = packed class_size class_in (vec_items d.classes) (drop d.ro
 
 abbrev pub dictionary_in : Dictionary → List ℕ → machine.Dictionary
 dictionary_in d store = record {
-  originals = λ f. slice_index_or d.originals (place f) false;
+  originals = stands d.originals;
   rows = rows_in d store;
   classes = classes_in d store;
 }

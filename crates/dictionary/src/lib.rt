@@ -9,8 +9,11 @@ mod classes;
 mod dictionary;
 mod editing;
 mod finding;
+mod looking_up;
 mod making;
+mod meaning;
 mod needs;
+mod originals;
 mod removing;
 mod rows;
 mod standing;
@@ -19,5 +22,6 @@ mod strings;
 
 pub use amounts::{ClassNeeds, Needs};
 pub use dictionary::Dictionary;
+pub use meaning::Meaning;
 pub use rows::{ClassRow, Extent, Row, RowMeaning};
 pub use string_place::StringPlace;

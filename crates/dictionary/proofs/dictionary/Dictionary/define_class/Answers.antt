@@ -1,6 +1,6 @@
 use Rattle.std.proofs.Common.{refl, ap, arith}
 use Rattle.dictionary.specs.declared.rows.ClassRow.{ClassRow}
-use Rattle.dictionary.proofs.Originals.{flag}
+use Rattle.dictionary.specs.Meant.{stands}
 use Rattle.dictionary.proofs.Meant.{other_lists}
 use Rattle.dictionary.proofs.ClassRows.{class_there, class_changed, room_for_class}
 use Rattle.dictionary.proofs.dictionary.Dictionary.define_class.Goals as goal
@@ -18,4 +18,4 @@ pub returns-in-Some-clause-meaning : goal.returns-in-Some-clause-meaning
 returns-in-Some-clause-meaning c =
     let d = c.args.self.now in
     let after = class_changed d c.args.store.now c.args.name.now c.in-Some.place c.index_mut.result.now _ c.requires.whole c.in-Some.ensures (ap (λ (r : ClassRow). r.name) c.index_mut.ensures.value) in
-    other_lists (flag d.originals) _ _ _ _ after.rows_are after.classes_are
+    other_lists (stands d.originals) _ _ _ _ after.rows_are after.classes_are

@@ -1,7 +1,7 @@
 use Rattle.std.proofs.Common.{[], sym, refl, ap, arith}
 use Rattle.dictionary.specs.declared.rows.ClassRow.{ClassRow}
 use Rattle.dictionary.specs.Meant.{rows_in, classes_in}
-use Rattle.dictionary.proofs.Originals.{flag}
+use Rattle.dictionary.specs.Meant.{stands}
 use Rattle.dictionary.proofs.Meant.{other_lists}
 use Rattle.dictionary.proofs.Firsts.{without_class_none}
 use Rattle.dictionary.proofs.ClassRows.{class_there, class_row_there, class_removed}
@@ -35,10 +35,10 @@ pub returns-in-Some-clause-meaning : goal.returns-in-Some-clause-meaning
 returns-in-Some-clause-meaning c =
     let d = c.args.self.now in
     let after = class_removed d c.args.store.now c.args.name.now c.in-Some.place no_row _ c.remove-self.result _ c.requires c.in-Some.ensures c.remove.ensures.items c.remove-self.ensures.text (omega (arith, c.remove-self.ensures.used)) in
-    other_lists (flag d.originals) _ _ _ _ after.rows_are after.classes_are
+    other_lists (stands d.originals) _ _ _ _ after.rows_are after.classes_are
 
 pub returns-in_default-clause-meaning : goal.returns-in_default-clause-meaning
 returns-in_default-clause-meaning c =
     let d = c.args.self.now in
     let none = c.in_default.ensures in
-    other_lists (flag d.originals) (rows_in d c.args.store.now) _ _ _ refl (sym (without_class_none c.args.name.now (classes_in d c.args.store.now) none))
+    other_lists (stands d.originals) (rows_in d c.args.store.now) _ _ _ refl (sym (without_class_none c.args.name.now (classes_in d c.args.store.now) none))

@@ -1,6 +1,6 @@
 use Rattle.std.proofs.Common.{true, replicate, ap}
 use Rattle.dictionary.specs.Decoding.{packed, row_size, row_in, class_size, class_in}
-use Rattle.dictionary.proofs.Originals.{all_up}
+use Rattle.dictionary.proofs.Flags.{all_up}
 use Rattle.dictionary.proofs.Meant.{as_new}
 use Rattle.dictionary.proofs.dictionary.Dictionary.new.Goals as goal
 

@@ -10,7 +10,7 @@ use Rattle.dictionary.specs.Editing.{row_of}
 use Rattle.dictionary.specs.Strings.{place_of, string_in}
 use Rattle.dictionary.proofs.Located.{spot}
 use Rattle.dictionary.proofs.Changed.{body_changed, same_size}
-use Rattle.dictionary.proofs.Originals.{flag}
+use Rattle.dictionary.specs.Meant.{stands}
 use Rattle.dictionary.proofs.Meant.{parts}
 use Rattle.dictionary.proofs.Said.{row_said, body_length, meaning_pointed, nothing_spliced}
 use Rattle.dictionary.proofs.dictionary.Dictionary.set_pointer.Goals as goal
@@ -33,7 +33,7 @@ returns-clause-meaning c store name whole first =
     let s = c.args.string in
     let start = s.start + s.name + 0 in
     let after = body_changed d store (place_of s) _ 0 0 _ d.row_bytes (text_in d store) [] whole c.requires.place (omega arith) (omega arith) refl refl (nothing_spliced (text_in d store) start) refl in
-    ap (λ rows. parts (flag d.originals) rows (classes_in d store))
+    ap (λ rows. parts (stands d.originals) rows (classes_in d store))
     (after.rows_are
     ∙ row_said d store name s _ (record { body = (string_in s store).body; pointer = c.args.pointer }) whole c.requires.place first
     (meaning_pointed (string_in s store).body s.extent.length c.args.pointer (body_length d store s whole c.requires.place)))

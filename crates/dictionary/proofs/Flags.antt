@@ -1,7 +1,8 @@
 -- The places of the built-ins in the table, and the original that goes where a name is defined or erased.
 use Rattle.std.proofs.Common.{◌≡◌, ℕ, zero, suc, ◌+◌, ◌<◌, ◌≤◌, Bool, true, false, cond, not, ◌&&◌, ◌⊎◌, List, [], ◌∷◌, map, length, get_or, set, replicate, Some, None, Option, sym, refl, ap, subst, ◌∙◌, arith, ⊎_elim}
 use Rattle.std.specs.List.{slice_get, list_all, position}
-use Rattle.std.specs.Option.{unwrap_or}
+use Rattle.std.specs.Option.{unwrap_or, option_map}
+use Rattle.std.specs.Bool.{then_some}
 use Rattle.std.specs.Str.{bytes_eq}
 use Rattle.std.proofs.lemmas.Bool.{false≢true, cases_eq, and_parts}
 use Rattle.std.proofs.lemmas.Slice.Eq.{bytes_eq-Decides}
@@ -20,8 +21,9 @@ use Rattle.machine.specs.declared.built_in.LibraryFunction.TheVariants.{Store, D
 use Rattle.machine.specs.declared.built_in.OtherFunction.TheVariants.{Ndf, Ps, Break}
 use Rattle.machine.specs.Texts.{Text, Code, spelled}
 use Rattle.machine.specs.BuiltIns.{letters, all_built_ins, name_of, first_named, built_in_named}
-use Rattle.machine.specs.Dictionary.{without_original}
-use Rattle.dictionary.specs.Meant.{place}
+use Rattle.machine.specs.Dictionary.{built_in, if_stands, without_original}
+use Rattle.built_ins.specs.Places.{StandsAt, PlacesDiffer}
+use Rattle.dictionary.specs.Meant.{place, stands}
 
 pub listed : (f : BuiltIn) → slice_get all_built_ins (place f) ≡ Some f
 unfolding place
@@ -153,42 +155,56 @@ and_no : (b : Bool) → false ≡ b && false
 and_no true = refl
 and_no false = refl
 
--- the flags by place
-abbrev pub flag : List Bool → BuiltIn → Bool
-flag flags f = get_or flags (place f) false
-
 dropped : (flags : List Bool) (k : ℕ) → get_or (set flags k false) k false ≡ false
 dropped [] k = refl
 dropped (b ∷ bs) zero = refl
 dropped (b ∷ bs) (suc k) = dropped bs k
 
 -- where no built-in has the name, all stand as before
-pub none_goes : (code : Code) (n : Text) (flags : List Bool) → built_in_named code n ≡ None → (g : BuiltIn) → flag flags g ≡ without_original code n (flag flags) g
+pub none_goes : (code : Code) (n : Text) (flags : List Bool) → built_in_named code n ≡ None → (g : BuiltIn) → stands flags g ≡ without_original code n (stands flags) g
 none_goes code n flags e g =
-    and_yes (flag flags g) ∙ ap (λ t. flag flags g && not t) (sym (none_named code n all_built_ins (place g) g e (listed g)))
+    and_yes (stands flags g) ∙ ap (λ t. stands flags g && not t) (sym (none_named code n all_built_ins (place g) g e (listed g)))
 
--- where one has it, its flag is taken down
-pub one_goes : (code : Code) → CodeLaws code → (n : Text) (flags : List Bool) (f : BuiltIn) → built_in_named code n ≡ Some f → (g : BuiltIn) → flag (set flags (place f) false) g ≡ without_original code n (flag flags) g
+-- where one has it, its stands is taken down
+pub one_goes : (code : Code) → CodeLaws code → (n : Text) (flags : List Bool) (f : BuiltIn) → built_in_named code n ≡ Some f → (g : BuiltIn) → stands (set flags (place f) false) g ≡ without_original code n (stands flags) g
 one_goes code laws n flags f e g = ⊎_elim same other (cases_eq (place g) (place f))
   where
     is : name_of code f ≡ n
     is = found_named code n all_built_ins f e
 
-    same : place g ≡ place f → flag (set flags (place f) false) g ≡ without_original code n (flag flags) g
+    same : place g ≡ place f → stands (set flags (place f) false) g ≡ without_original code n (stands flags) g
     same p =
         let named_so : bytes_eq (name_of code g) n ≡ true = (bytes_eq-Decides (name_of code g) n).1 (ap (name_of code) (same_place g f p) ∙ is) in
         ap (λ k. get_or (set flags (place f) false) k false) p ∙ dropped flags (place f)
-        ∙ and_no (flag flags g) ∙ ap (λ t. flag flags g && not t) (sym named_so)
+        ∙ and_no (stands flags g) ∙ ap (λ t. stands flags g && not t) (sym named_so)
 
     differs : (t : Bool) → (place g ≡ place f → ⊥) → bytes_eq (name_of code g) n ≡ t → bytes_eq (name_of code g) n ≡ false
     differs true p q = absurd (p (ap place (same_name code laws g f ((bytes_eq-Decides (name_of code g) n).0 q ∙ sym is))))
     differs false p q = q
 
-    other : (place g ≡ place f → ⊥) → flag (set flags (place f) false) g ≡ without_original code n (flag flags) g
+    other : (place g ≡ place f → ⊥) → stands (set flags (place f) false) g ≡ without_original code n (stands flags) g
     other p =
         get_or-set_other flags (place f) (place g) false false p
-        ∙ and_yes (flag flags g) ∙ ap (λ t. flag flags g && not t) (sym (differs (bytes_eq (name_of code g) n) p refl))
+        ∙ and_yes (stands flags g) ∙ ap (λ t. stands flags g && not t) (sym (differs (bytes_eq (name_of code g) n) p refl))
 
 -- forty-six flags that are up
-pub all_up : (f : BuiltIn) → flag (replicate 46 true) f ≡ true
+pub all_up : (f : BuiltIn) → stands (replicate 46 true) f ≡ true
 all_up f = get_or-replicate 46 (place f) true false (place_within f)
+
+-- a built-in stands at its place alone
+pub place_is : (f : BuiltIn) (k : ℕ) → PlacesDiffer → StandsAt f k → k ≡ place f
+place_is f k differ at = differ.one_place f k (place f) at (listed f)
+
+-- what a name means as an original
+pub original_is : (code : Code) (n : Text) (flags : List Bool) (f : BuiltIn) (k : ℕ) (r : Option BuiltIn) → built_in_named code n ≡ Some f → k ≡ place f → r ≡ then_some (get_or flags k false) f → option_map built_in r ≡ if_stands (stands flags) (built_in_named code n)
+original_is code n flags f k r named at r_is =
+    ap (option_map built_in) (r_is ∙ ap (λ j. then_some (get_or flags j false) f) at)
+    ∙ either (stands flags f)
+    ∙ sym (ap (if_stands (stands flags)) named)
+  where
+    either : (t : Bool) → option_map built_in (then_some t f) ≡ cond t (Some (built_in f)) None
+    either true = refl
+    either false = refl
+
+pub no_original : (code : Code) (n : Text) (flags : List Bool) (r : Option BuiltIn) → built_in_named code n ≡ None → r ≡ None → option_map built_in r ≡ if_stands (stands flags) (built_in_named code n)
+no_original code n flags r named r_is = ap (option_map built_in) r_is ∙ sym (ap (if_stands (stands flags)) named)
