@@ -1,7 +1,8 @@
 -- What a dictionary means, by its parts.
-use Rattle.std.proofs.Common.{◌≡◌, ℕ, Bool, true, false, List, [], ◌∷◌, get_or, ap}
+use Rattle.std.proofs.Common.{◌≡◌, ℕ, Bool, true, false, List, [], ◌∷◌, get_or, ap, ◌∙◌}
 use Rattle.machine.specs.declared.built_in.BuiltIn.{BuiltIn}
-use Rattle.machine.specs.Dictionary.{Dictionary, Row, Class, new_dictionary}
+use Rattle.machine.specs.Texts.{Text, Code}
+use Rattle.machine.specs.Dictionary.{Dictionary, Row, Class, Meaning, new_dictionary, without_original, with_row, define}
 use Rattle.dictionary.specs.declared.dictionary.Dictionary.{Dictionary as Held}
 use Rattle.dictionary.specs.Meant.{stands, rows_in, classes_in, dictionary_in}
 use Rattle.dictionary.specs.Editing.{RowsEdited, with_rows}
@@ -26,3 +27,9 @@ rows_edited d e store after rows others rows_are =
 -- the same originals, and rows and classes that are known
 pub other_lists : (o : BuiltIn → Bool) (rs ss : List Row) (cs ds : List Class) → rs ≡ ss → cs ≡ ds → parts o rs cs ≡ parts o ss ds
 other_lists o rs ss cs ds er ec = λ i. parts o (er i) (ec i)
+
+-- a name that means this now, and whose original is gone
+pub defined : (code : Code) (n : Text) (m : Meaning) (d e : Held) (store after : List ℕ) (flags : List Bool) → ((f : BuiltIn) → stands flags f ≡ without_original code n (stands d.originals) f) → e.originals ≡ flags → rows_in e after ≡ with_row n m (rows_in d store) → classes_in e after ≡ classes_in d store → dictionary_in e after ≡ define code n m (dictionary_in d store)
+defined code n m d e store after flags gone flags_are rows_are classes_are =
+    same_parts (stands e.originals) (without_original code n (stands d.originals)) (rows_in e after) _ (classes_in e after) (classes_in d store)
+    (λ f. ap (λ x. stands x f) flags_are ∙ gone f) rows_are classes_are

@@ -6,6 +6,7 @@
 mod amounts;
 mod class_place;
 mod classes;
+mod defining;
 mod dictionary;
 mod editing;
 mod finding;
