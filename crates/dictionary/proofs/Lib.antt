@@ -11,3 +11,4 @@ pub mod Said
 pub mod ClassRows
 pub mod Taken
 pub mod Looked
+pub mod Overwritten

@@ -12,6 +12,7 @@ mod editing;
 mod finding;
 mod looking_up;
 mod making;
+mod marking;
 mod meaning;
 mod needs;
 mod originals;

@@ -15,14 +15,14 @@ use crate::string_place::StringPlace;
 
 impl StringPlace {
     // Where its body begins.
-    fn body_start(&self) -> usize
+    pub(crate) fn body_start(&self) -> usize
         requires { self.now.start + self.now.name < 2 ^ 64 }
         ensures { result ≡ self.now.start + self.now.name }
     {
         self.start + self.name
     }
 
-    fn place(self) -> Place
+    pub(crate) fn place(self) -> Place
         ensures { result ≡ place_of self }
     {
         Place {
