@@ -3,7 +3,7 @@ use Rattle.std.proofs.Common.{◌≡◌, ℕ, zero, suc, ◌+◌, ◌-◌, ◌<�
 use Rattle.std.specs.Prelude.{vec_items, vec_len}
 use Rattle.std.specs.List.{sum_by, splice, remove, slice_get}
 use Rattle.std.specs.Str.{bytes_eq}
-use Rattle.std.proofs.lemmas.List.{take-append-drop, take_all, drop_all, drop-drop, drop_at, length-take-le, take_at, drop-append-le, take-append-le, drop-take, take-take, get_or_push}
+use Rattle.std.proofs.lemmas.List.{take-append-drop, take_all, drop_all, drop-drop, drop_at, length-take-le, take_at, drop-append-le, take-append-le, drop-take, take-take, get_or_push, get_or_append_left}
 use Rattle.std.proofs.lemmas.List.Sums.{sum_by-cons, sum_by-set}
 use Rattle.std.proofs.lemmas.Option.{slice_get_within, slice_get-get_or, get_or_from_slice_get}
 use Rattle.std.proofs.lemmas.Slice.Eq.{bytes_eq-Decides}
@@ -163,3 +163,27 @@ start_last d r rows k rows_are count =
 pub same_size : (d : Dictionary) (p : Place) (r : Row) → RowAt d p → row_size r ≡ row_size p.row → d.row_bytes ≡ sum_by row_size (set (vec_items d.rows) p.index r)
 same_size d p r at same =
     omega (arith, d.rows_filled, sum_by-set row_size (vec_items d.rows) p.index r p.row (slice_get_within (vec_items d.rows) p.index p.row at.row), ap row_size (get_or_from_slice_get (vec_items d.rows) p.index p.row p.row at.row))
+
+-- a row that stands goes on to stand where another comes behind it
+pub earlier_stands : (d e : Dictionary) (r : Row) (p : Place) → vec_items e.rows ≡ vec_items d.rows ++ r ∷ [] → RowAt d p → RowAt e p
+earlier_stands d e r p rows_are at =
+    let es : List Row = vec_items d.rows in
+    let within : p.index < length es = slice_get_within es p.index p.row at.row in
+    record {
+      row = ap (λ (l : List Row). slice_get l p.index) rows_are
+          ∙ slice_get-get_or (es ++ r ∷ []) p.index p.row (omega (arith, length-append es (r ∷ [])))
+          ∙ ap (λ x. Some x) (get_or_append_left es (r ∷ []) p.row p.index within ∙ get_or_from_slice_get es p.index p.row p.row at.row);
+      start = at.start ∙ ap (sum_by row_size) (sym (ap (take p.index) rows_are ∙ take-append-le p.index es (r ∷ []) (omega arith)));
+    }
+
+-- what lies before the end of the rows, after bytes come in there
+pub front_kept : (d : Dictionary) (store after : List ℕ) (used : ℕ) (bytes : List ℕ) → d.used ≤ length store → d.row_bytes ≤ used → take used after ≡ splice (text_in d store) d.row_bytes d.row_bytes bytes → take d.row_bytes after ≡ take d.row_bytes store
+front_kept d store after used bytes h l text_is =
+    let R : ℕ = d.row_bytes in
+    let t : List ℕ = text_in d store in
+    let size : R ≤ d.used = omega (arith, d.classes_filled) in
+    let front : length (take R t) ≡ R = length-take-le R t (omega (arith, length-take-le d.used store h)) in
+    sym (take-take R used after l)
+    ∙ ap (take R) text_is
+    ∙ take_at (take R t) (bytes ++ drop R t) R front
+    ∙ take-take R d.used store size

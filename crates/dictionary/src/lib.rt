@@ -6,6 +6,7 @@
 mod amounts;
 mod class_place;
 mod classes;
+mod copying;
 mod defining;
 mod dictionary;
 mod editing;

@@ -1,10 +1,11 @@
 // A row for a name, whatever it is to mean.
-ghost use Rattle.std.specs.Prelude.{◌≡◌, ◌+◌, ◌<◌, ◌≤◌, None, [], length, vec_len};
+ghost use Rattle.std.specs.Prelude.{◌≡◌, ◌+◌, ◌<◌, ◌≤◌, None, [], length, take, vec_len};
 ghost use Rattle.machine.specs.Texts.{first_place};
 ghost use Rattle.machine.specs.Dictionary.{Meaning, string, new_string, with_row};
+ghost use Rattle.dictionary.specs.declared.finding.Place.{Place};
 ghost use Rattle.dictionary.specs.Decoding.{body_size, meaning_in};
 ghost use Rattle.dictionary.specs.Meant.{rows_in, dictionary_in};
-ghost use Rattle.dictionary.specs.Finding.{row_named, Standing};
+ghost use Rattle.dictionary.specs.Finding.{row_named, RowAt, Standing};
 ghost use Rattle.dictionary.specs.Editing.{RowsEdited, Room, with_rows};
 
 use crate::dictionary::Dictionary;
@@ -21,6 +22,8 @@ impl Dictionary {
         requires fits { self.old.used + length name.now ≤ length store.old }
         ensures rows { rows_in self.new store.new ≡ with_row name.now (string (new_string [])) (rows_in self.old store.old) }
         ensures place { Standing self.new store.new name.now result }
+        ensures earlier { (p : Place) → RowAt self.old p → RowAt self.new p }
+        ensures front { take self.old.row_bytes store.new ≡ take self.old.row_bytes store.old }
         ensures others { RowsEdited self.old self.new store.old store.new }
     {
         let row = Row {
@@ -49,6 +52,8 @@ impl Dictionary {
         requires room { (m : Meaning) × Room self.old store.old (with_rows (with_row name.now m (rows_in self.old store.old)) (dictionary_in self.old store.old)) }
         ensures rows { (m : Meaning) → with_row name.now m (rows_in self.new store.new) ≡ with_row name.now m (rows_in self.old store.old) }
         ensures place { Standing self.new store.new name.now result }
+        ensures earlier { (p : Place) → RowAt self.old p → RowAt self.new p }
+        ensures front { take self.old.row_bytes store.new ≡ take self.old.row_bytes store.old }
         ensures others { RowsEdited self.old self.new store.old store.new }
     {
         match self.find(store, name) {

@@ -1,6 +1,6 @@
 use Rattle.std.proofs.Common.{◌+◌, length, vec_items, refl, ap, ◌∙◌, arith}
 use Rattle.dictionary.specs.Decoding.{packed, class_size, class_in}
-use Rattle.dictionary.proofs.Changed.{empty_added, first_added, row_last, start_last}
+use Rattle.dictionary.proofs.Changed.{empty_added, first_added, row_last, start_last, earlier_stands, front_kept}
 use Rattle.dictionary.proofs.dictionary.Dictionary.add.Goals as goal
 
 pub returns-clause-rows : goal.returns-clause-rows
@@ -31,3 +31,11 @@ returns-clause-others c =
       classes = ap (packed class_size class_in (vec_items d.classes)) after.classes_are;
       kept = record { most_rows = refl; whole = omega (arith, c.splice-self.ensures.used, c.splice-self.ensures.len) };
     }
+
+pub returns-clause-earlier : goal.returns-clause-earlier
+returns-clause-earlier c p at = earlier_stands c.args.self.now _ _ p c.push_reserved.ensures.items at
+
+pub returns-clause-front : goal.returns-clause-front
+returns-clause-front c =
+    let d = c.args.self.now in
+    front_kept d c.args.store.now c.splice-self.new.area c.splice-self.result c.args.name.now c.requires.whole (omega (arith, c.splice-self.ensures.used, d.classes_filled)) c.splice-self.ensures.text
