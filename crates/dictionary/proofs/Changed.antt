@@ -1,9 +1,8 @@
 -- A row whose body is changed, a row that is added and a row that is removed.
-use Rattle.std.proofs.Common.{◌≡◌, ℕ, zero, suc, ◌+◌, ◌-◌, ◌<◌, ◌≤◌, List, [], ◌∷◌, ◌++◌, length, set, take, drop, Some, None, sym, refl, ap, ◌∙◌, subst, arith, length-drop, length-append, add-one, append_assoc, take-add}
-use Rattle.std.specs.Prelude.{vec_items, vec_len}
+use Rattle.std.proofs.Common.{◌≡◌, ℕ, ◌+◌, ◌-◌, ◌<◌, ◌≤◌, List, [], ◌∷◌, ◌++◌, length, set, take, drop, Some, None, sym, refl, ap, ◌∙◌, subst, arith, length-drop, length-append, append_assoc, take-add}
+use Rattle.std.specs.Prelude.{vec_items}
 use Rattle.std.specs.List.{sum_by, splice, remove, slice_get}
-use Rattle.std.specs.Str.{bytes_eq}
-use Rattle.std.proofs.lemmas.List.{take-append-drop, take_all, drop_all, drop-drop, drop_at, length-take-le, take_at, drop-append-le, take-append-le, drop-take, take-take, get_or_push, get_or_append_left}
+use Rattle.std.proofs.lemmas.List.{take_all, drop-drop, drop_at, length-take-le, take_at, take-append-le, drop-take, take-take, get_or_push, get_or_append_left, get_or-set_same, take-set, length-set}
 use Rattle.std.proofs.lemmas.List.Sums.{sum_by-cons, sum_by-set}
 use Rattle.std.proofs.lemmas.Option.{slice_get_within, slice_get-get_or, get_or_from_slice_get}
 use Rattle.std.proofs.lemmas.Slice.Eq.{bytes_eq-Decides}
@@ -14,12 +13,12 @@ use Rattle.dictionary.specs.declared.rows.Row.{Row}
 use Rattle.dictionary.specs.declared.rows.RowMeaning.{RowMeaning}
 use Rattle.dictionary.specs.declared.finding.Place.{Place}
 use Rattle.dictionary.specs.declared.dictionary.Dictionary.{Dictionary}
-use Rattle.dictionary.specs.Decoding.{packed, row_size, body_size, row_in, meaning_in}
+use Rattle.dictionary.specs.Decoding.{row_size, body_size, row_in, meaning_in}
 use Rattle.dictionary.specs.Meant.{text_in, rows_in}
-use Rattle.dictionary.specs.Finding.{row_named, RowAt, Standing, name_at, body_at}
+use Rattle.dictionary.specs.Finding.{row_named, RowAt, Standing, name_at, body_at, meaning_there}
 use Rattle.dictionary.proofs.Packed.{length_packed}
 use Rattle.dictionary.specs.Editing.{row_of}
-use Rattle.dictionary.proofs.Located.{before, read}
+use Rattle.dictionary.proofs.Located.{before, read, spot}
 use Rattle.dictionary.proofs.Firsts.{with_row_new, first_passes, first_last, same_name}
 use Rattle.dictionary.proofs.Edited.{Edited, edited, set_spliced, remove_spliced, push_spliced, splice_inside, length-splice}
 
@@ -187,3 +186,42 @@ front_kept d store after used bytes h l text_is =
     ∙ ap (take R) text_is
     ∙ take_at (take R t) (bytes ++ drop R t) R front
     ∙ take-take R d.used store size
+
+-- the row that gave way to another stands
+pub changed_stands : (d e : Dictionary) (p : Place) (m : RowMeaning) → RowAt d p → vec_items e.rows ≡ set (vec_items d.rows) p.index (record { name = p.row.name; meaning = m }) → RowAt e (meaning_there p m)
+changed_stands d e p m at rows_are =
+    let r : Row = record { name = p.row.name; meaning = m } in
+    let es : List Row = vec_items d.rows in
+    let within : p.index < length es = slice_get_within es p.index p.row at.row in
+    record {
+      row = ap (λ (l : List Row). slice_get l p.index) rows_are
+          ∙ slice_get-get_or (set es p.index r) p.index r (omega (arith, length-set es p.index r))
+          ∙ ap (λ x. Some x) (get_or-set_same es p.index r r within);
+      start = at.start ∙ ap (sum_by row_size) (sym (ap (take p.index) rows_are ∙ take-set es p.index r));
+    }
+
+-- what a row means is what is read where it stands
+pub means_there : (d : Dictionary) (store : List ℕ) (p : Place) (rows : List machine.Row) (n : Text) (m : Meaning) → d.used ≤ length store → RowAt d p → rows_in d store ≡ set rows p.index (row_of n m) → meaning_in p.row.meaning (drop (p.start + p.row.name) store) ≡ m
+means_there d store p rows n m h at rows_are =
+    let there = read d store p.index p.row at.row h in
+    let long : length (rows_in d store) ≡ length rows = ap length rows_are ∙ length-set rows p.index (row_of n m) in
+    let within : p.index < length rows = omega (arith, slice_get_within (rows_in d store) p.index _ there.there) in
+    let now : slice_get (rows_in d store) p.index ≡ Some (row_of n m) =
+    ap (λ (l : List machine.Row). slice_get l p.index) rows_are
+    ∙ slice_get-get_or (set rows p.index (row_of n m)) p.index (row_of n m) (omega (arith, length-set rows p.index (row_of n m)))
+    ∙ ap (λ x. Some x) (get_or-set_same rows p.index (row_of n m) (row_of n m) within) in
+    let both : Some (row_in p.row (drop (before d p.index) store)) ≡ Some (row_of n m) = sym there.there ∙ now in
+    let row : row_in p.row (drop (before d p.index) store) ≡ row_of n m = cc in
+    ap (meaning_in p.row.meaning) (sym (drop-drop p.row.name p.start store) ∙ ap (λ k. drop p.row.name (drop k store)) at.start)
+    ∙ ap (λ (r : machine.Row). r.meaning) row
+
+-- the same, with the bytes of the rows as the code counts them
+pub body_edited : (d : Dictionary) (store : List ℕ) (p : Place) (m : RowMeaning) (u v : ℕ) (text piece : List ℕ) → d.used ≤ length store → RowAt d p → (u ≤ v) × (v ≤ body_size p.row.meaning) → body_size m + (v - u) ≡ body_size p.row.meaning + length piece → text ≡ splice (text_in d store) (p.start + p.row.name + u) (p.start + p.row.name + v) piece → Edited d store (set (vec_items d.rows) p.index (record { name = p.row.name; meaning = m })) (d.row_bytes - (p.start + p.row.name + v - (p.start + p.row.name + u)) + length piece) text (set (rows_in d store) p.index (row_of (name_at p store) (meaning_in m (splice (body_at p store) u v piece))))
+body_edited d store p m u v text piece h at part size text_is =
+    let here = spot d p at in
+    body_changed d store p m u v _ _ text piece h at part.0 part.1 size refl text_is (omega arith)
+
+pub row_cut_out : (d : Dictionary) (store : List ℕ) (p : Place) (size : ℕ) (rows : List Row) (text : List ℕ) → d.used ≤ length store → RowAt d p → size ≡ row_size p.row → rows ≡ remove (vec_items d.rows) p.index → text ≡ splice (text_in d store) p.start (p.start + size) [] → Edited d store rows (d.row_bytes - size) text (remove (rows_in d store) p.index)
+row_cut_out d store p size rows text h at size_is rows_are text_is =
+    let here = spot d p at in
+    row_removed d store p rows _ text h at rows_are (text_is ∙ ap (λ k. splice (text_in d store) p.start (p.start + k) []) size_is) (omega arith)

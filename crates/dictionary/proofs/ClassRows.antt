@@ -1,16 +1,15 @@
 -- Classes that are found, and edits of them.
-use Rattle.std.proofs.Common.{◌≡◌, ℕ, suc, ◌+◌, ◌-◌, ◌<◌, ◌≤◌, Bool, true, false, List, [], ◌∷◌, ◌++◌, length, get_or, set, take, drop, Some, None, sym, refl, ap, subst, ◌∙◌, add-one, arith, length-drop, length-append}
+use Rattle.std.proofs.Common.{◌≡◌, ℕ, ◌+◌, ◌-◌, ◌<◌, ◌≤◌, Bool, true, false, List, [], ◌∷◌, ◌++◌, length, get_or, set, take, drop, Some, None, sym, refl, ap, subst, ◌∙◌, add-one, arith, length-drop, length-append}
 use Rattle.std.specs.Prelude.{vec_items, vec_len}
 use Rattle.std.specs.List.{sum_by, splice, remove, slice_get}
 use Rattle.std.specs.Option.{option_map}
 use Rattle.std.specs.Str.{bytes_eq}
-use Rattle.std.proofs.lemmas.List.{take_all, drop_all, drop-take, length-take, length-take-le, append-nil, take-append-drop, take-take, drop-drop}
+use Rattle.std.proofs.lemmas.List.{take_all, drop-take, length-take, length-take-le, drop-drop}
 use Rattle.std.proofs.lemmas.List.Sums.{sum_by-take-le, sum_by_push, sum_by-set, sum_by-cons}
-use Rattle.std.proofs.lemmas.Option.{slice_get_within, slice_get-get_or, get_or_from_slice_get}
+use Rattle.std.proofs.lemmas.Option.{slice_get_within, slice_get-get_or}
 use Rattle.std.proofs.lemmas.Slice.Eq.{bytes_eq-Decides}
 use Rattle.machine.specs.Texts.{Text, first_place}
 use Rattle.machine.specs.Dictionary.{Class, in_classes, with_class, without_class, bytes_in, with_classes}
-use Rattle.machine.specs.Dictionary as machine
 use Rattle.dictionary.specs.declared.rows.ClassRow.{ClassRow}
 use Rattle.dictionary.specs.declared.class_place.ClassPlace.{ClassPlace}
 use Rattle.dictionary.specs.declared.dictionary.Dictionary.{Dictionary}

@@ -1,16 +1,15 @@
 -- A dictionary whose rows, or whose classes, are edited together with their bytes.
-use Rattle.std.proofs.Common.{◌≡◌, ℕ, zero, suc, ◌+◌, ◌-◌, ◌<◌, ◌≤◌, List, [], ◌∷◌, ◌++◌, length, set, take, drop, sym, refl, ap, ◌∙◌, arith, length-drop, length-append, add-one, append_assoc, take-add}
-use Rattle.std.specs.Prelude.{vec_items, vec_len}
+use Rattle.std.proofs.Common.{◌≡◌, ℕ, ◌+◌, ◌-◌, ◌<◌, ◌≤◌, List, [], ◌∷◌, ◌++◌, length, set, take, drop, sym, ap, ◌∙◌, arith, length-drop, length-append, add-one, append_assoc, take-add}
+use Rattle.std.specs.Prelude.{vec_items}
 use Rattle.std.specs.List.{sum_by, splice, remove}
-use Rattle.std.proofs.lemmas.List.{take-append-drop, take_all, drop_all, drop-drop, drop_at, length-take-le, set_split, take_at, drop-append-le, take-append-le}
+use Rattle.std.proofs.lemmas.List.{take-append-drop, take_all, drop_all, drop-drop, drop_at, length-take-le, set_split, drop-append-le, take-append-le}
 use Rattle.std.proofs.lemmas.List.Sums.{sum_by-append, sum_by-take-le}
 use Rattle.machine.specs.Dictionary as machine
 use Rattle.dictionary.specs.declared.rows.Row.{Row}
-use Rattle.dictionary.specs.declared.rows.ClassRow.{ClassRow}
 use Rattle.dictionary.specs.declared.dictionary.Dictionary.{Dictionary}
-use Rattle.dictionary.specs.Decoding.{packed, row_size, row_in, class_size, class_in}
+use Rattle.dictionary.specs.Decoding.{packed, row_size, row_in}
 use Rattle.dictionary.specs.Meant.{text_in, rows_in}
-use Rattle.dictionary.proofs.Packed.{replaced, length_packed}
+use Rattle.dictionary.proofs.Packed.{replaced}
 use Rattle.dictionary.proofs.Sizes.{rows_framed}
 use Rattle.dictionary.proofs.Located.{before}
 

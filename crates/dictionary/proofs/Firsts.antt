@@ -1,8 +1,9 @@
 -- The first element that passes a test, and the row of a name.
-use Rattle.std.proofs.Common.{◌≡◌, ℕ, zero, suc, ◌+◌, ◌<◌, ◌≤◌, Bool, true, false, cond, ◌⊎◌, List, [], ◌∷◌, ◌++◌, length, set, take, drop, Some, None, Option, sym, refl, ap, subst, ◌∙◌, inl, inr, ⊎_elim, arith}
+use Rattle.std.proofs.Common.{◌≡◌, ℕ, zero, suc, ◌<◌, Bool, true, false, cond, ◌⊎◌, List, [], ◌∷◌, ◌++◌, length, set, take, Some, None, Option, sym, refl, ap, ◌∙◌, inl, inr, ⊎_elim, arith}
 use Rattle.std.specs.List.{slice_get, remove}
 use Rattle.std.specs.Option.{option_map}
 use Rattle.std.specs.Str.{bytes_eq}
+use Rattle.std.proofs.lemmas.Bool.{false≢true}
 use Rattle.std.proofs.lemmas.Slice.Eq.{bytes_eq-Decides}
 use Rattle.machine.specs.Texts.{Text, first_place}
 use Rattle.machine.specs.Dictionary.{Row, Class, Meaning, in_rows, with_row, without_row, in_classes, with_class, without_class}
@@ -203,3 +204,17 @@ first_within f (y ∷ ys) i e =
     (λ (h : Head f y i). omega (arith, h.place))
     (λ (l : Later f y ys i). omega (arith, l.place, first_within f ys l.before l.first))
     (first_cases f y ys i e)
+
+-- the first row of a name is that also once it means something else
+pub first_kept : (n : Text) (m : Meaning) (rs : List Row) (i : ℕ) → first_place (row_named n) rs ≡ Some i → first_place (row_named n) (with_row n m rs) ≡ Some i
+first_kept n m [] i e = cc
+first_kept n m (r ∷ rs) i e = go (bytes_eq r.name n) refl (first_cases (row_named n) r rs i e) (λ k. first_kept n m rs k)
+  where
+    go : (t : Bool) → bytes_eq r.name n ≡ t → Head (row_named n) r i ⊎ Later (row_named n) r rs i → ((k : ℕ) → first_place (row_named n) rs ≡ Some k → first_place (row_named n) (with_row n m rs) ≡ Some k) → first_place (row_named n) (cond t (row_of n m ∷ rs) (r ∷ with_row n m rs)) ≡ Some i
+    go true p (inl h) kept =
+        ap (λ t. cond t (Some 0) (option_map suc (first_place (row_named n) rs))) (same_name n m) ∙ ap (λ k. Some k) (sym h.place)
+    go true p (inr l) kept = absurd (false≢true (sym l.fails ∙ p))
+    go false p (inl h) kept = absurd (false≢true (sym p ∙ h.passes))
+    go false p (inr l) kept =
+        ap (λ t. cond t (Some 0) (option_map suc (first_place (row_named n) (with_row n m rs)))) p
+        ∙ ap (option_map suc) (kept l.before l.first) ∙ ap (λ k. Some k) (sym l.place)

@@ -1,12 +1,11 @@
 -- What a dictionary means, by its parts.
-use Rattle.std.proofs.Common.{◌≡◌, ℕ, Bool, true, false, List, [], ◌∷◌, get_or, ap, ◌∙◌}
+use Rattle.std.proofs.Common.{◌≡◌, ℕ, Bool, true, List, [], ap, ◌∙◌}
 use Rattle.machine.specs.declared.built_in.BuiltIn.{BuiltIn}
 use Rattle.machine.specs.Texts.{Text, Code}
 use Rattle.machine.specs.Dictionary.{Dictionary, Row, Class, Meaning, new_dictionary, without_original, with_row, define}
 use Rattle.dictionary.specs.declared.dictionary.Dictionary.{Dictionary as Held}
 use Rattle.dictionary.specs.Meant.{stands, rows_in, classes_in, dictionary_in}
 use Rattle.dictionary.specs.Editing.{RowsEdited, with_rows}
-use Rattle.dictionary.proofs.Flags.{listed, all_up}
 
 abbrev pub parts : (BuiltIn → Bool) → List Row → List Class → Dictionary
 parts originals rows classes = record { originals = originals; rows = rows; classes = classes }

@@ -1,19 +1,18 @@
 -- A part of a row's body that is overwritten in the store.
-use Rattle.std.proofs.Common.{◌≡◌, ℕ, suc, ◌+◌, ◌-◌, ◌<◌, ◌≤◌, List, [], ◌∷◌, ◌++◌, length, get_or, set, take, drop, Some, sym, refl, ap, ◌∙◌, arith, length-drop, length-append, append_assoc}
+use Rattle.std.proofs.Common.{◌≡◌, ℕ, ◌+◌, ◌-◌, ◌≤◌, List, [], ◌++◌, length, set, take, drop, Some, sym, ap, ◌∙◌, arith, length-drop, length-append, append_assoc}
 use Rattle.std.specs.Prelude.{vec_items, slice_range}
 use Rattle.std.specs.List.{splice, slice_get}
-use Rattle.std.proofs.lemmas.List.{drop-drop, drop-take, take-take, take_all, drop_all, take_at, length-take-le, length-take, set-get_or, set-set, append-nil}
+use Rattle.std.proofs.lemmas.List.{drop-drop, drop-take, take-take, drop_all, length-take-le, set-get_or, set-set, append-nil}
 use Rattle.std.proofs.Math.Seq.{take-append-add}
 use Rattle.std.proofs.lemmas.Option.{get_or_from_slice_get}
 use Rattle.machine.specs.Texts.{Text, first_place}
-use Rattle.machine.specs.Dictionary.{Meaning, string, rest_of, with_row}
+use Rattle.machine.specs.Dictionary.{Str, Meaning, string, rest_of, with_row}
 use Rattle.machine.specs.Strings.{with_mark, with_rest}
 use Rattle.machine.specs.Dictionary as machine
-use Rattle.dictionary.specs.declared.rows.Row.{Row}
 use Rattle.dictionary.specs.declared.finding.Place.{Place}
 use Rattle.dictionary.specs.declared.string_place.StringPlace.{StringPlace}
 use Rattle.dictionary.specs.declared.dictionary.Dictionary.{Dictionary}
-use Rattle.dictionary.specs.Decoding.{packed, row_size, body_size, row_in, meaning_in, class_size, class_in}
+use Rattle.dictionary.specs.Decoding.{packed, body_size, meaning_in, class_size, class_in}
 use Rattle.dictionary.specs.Meant.{text_in, rows_in, classes_in}
 use Rattle.dictionary.specs.Finding.{row_named, RowAt, name_at, body_at}
 use Rattle.dictionary.specs.Editing.{row_of}
@@ -105,20 +104,60 @@ meaning_cut body bytes p n k t size long short cut =
     ap (λ (l : List ℕ). string_of (take (p + k) l) p) all
     ∙ ap (λ (l : List ℕ). string_of l p) (take-take (p + k) (p + k) over (omega arith) ∙ kept)
 
--- a string whose rest is overwritten in the store, and then cut short
-pub row_cut : (d : Dictionary) (store after : List ℕ) (n : Text) (s : StringPlace) (bytes : List ℕ) (k : ℕ) (t : List ℕ) → d.used ≤ length store → RowAt d (place_of s) → first_place (row_named n) (rows_in d store) ≡ Some s.index → s.extent.pointer + length bytes ≡ s.extent.length → k ≤ length bytes → take k bytes ≡ t → after ≡ splice store (s.start + s.name + s.extent.pointer) (s.start + s.name + s.extent.length) bytes → set (rows_in d after) s.index (row_of (name_at (place_of s) after) (string_of (take (s.extent.pointer + k) (splice (body_at (place_of s) after) (s.extent.pointer + k) s.extent.length [])) s.extent.pointer)) ≡ with_row n (string (with_rest t (string_in s store))) (rows_in d store)
-row_cut d store after n s bytes k t h at first size short cut after_is =
+-- A string whose rest is overwritten in the store, and then cut short: q is its place, and `rows` what the rows mean then.
+pub record Cut (d : Dictionary) (store after : List ℕ) (s : StringPlace) (bytes : List ℕ) (k : ℕ) (t : List ℕ) : Type 0 where
+  pub whole : d.used ≤ length store
+  pub at : RowAt d (place_of s)
+  pub size : s.extent.pointer + length bytes ≡ s.extent.length
+  pub short : k ≤ length bytes
+  pub cut : take k bytes ≡ t
+  pub after_is : after ≡ splice store (s.start + s.name + s.extent.pointer) (s.start + s.name + s.extent.length) bytes
+
+abbrev pub cut_value : StringPlace → ℕ → Place → List ℕ → Meaning
+cut_value s k q after = string_of (take (s.extent.pointer + k) (splice (body_at q after) (s.extent.pointer + k) s.extent.length [])) s.extent.pointer
+
+pub value_cut : (d : Dictionary) (store after : List ℕ) (s : StringPlace) (bytes : List ℕ) (k : ℕ) (t : List ℕ) (q : Place) → Cut d store after s bytes k t → q ≡ place_of s → cut_value s k q after ≡ string (with_rest t (string_in s store))
+value_cut d store after s bytes k t q c same =
+    let p : ℕ = s.extent.pointer in
+    let l : ℕ = s.extent.length in
+    let over = overwritten d store after (place_of s) p l bytes c.whole c.at c.size (omega arith) c.after_is in
+    ap (λ (x : Place). cut_value s k x after) same
+    ∙ ap (λ (x : List ℕ). string_of (take (p + k) (splice x (p + k) l [])) p) over.body_is
+    ∙ meaning_cut (string_in s store).body bytes p l k t (body_length d store s c.whole c.at) c.size c.short c.cut
+
+pub rows_cut : (d : Dictionary) (store after : List ℕ) (s : StringPlace) (bytes : List ℕ) (k : ℕ) (t : List ℕ) (q : Place) (rows : List machine.Row) → Cut d store after s bytes k t → q ≡ place_of s → rows ≡ set (rows_in d after) q.index (row_of (name_at q after) (cut_value s k q after)) → (n : Text) → first_place (row_named n) (rows_in d store) ≡ Some s.index → rows ≡ with_row n (string (with_rest t (string_in s store))) (rows_in d store)
+rows_cut d store after s bytes k t q rows c same rows_are n first =
     let p : ℕ = s.extent.pointer in
     let l : ℕ = s.extent.length in
     let i : ℕ = s.index in
-    let over = overwritten d store after (place_of s) p l bytes h at size (omega arith) after_is in
-    let value : Meaning = string_of (take (p + k) (splice (splice (string_in s store).body p l bytes) (p + k) l [])) p in
-    ap (λ (x : List ℕ). set (rows_in d after) i (row_of (name_at (place_of s) after) (string_of (take (p + k) (splice x (p + k) l [])) p))) over.body_is
+    let over = overwritten d store after (place_of s) p l bytes c.whole c.at c.size (omega arith) c.after_is in
+    let value : Meaning = cut_value s k q after in
+    rows_are
+    ∙ ap (λ (x : Place). set (rows_in d after) x.index (row_of (name_at x after) value)) same
     ∙ ap (λ (x : Text). set (rows_in d after) i (row_of x value)) over.name_is
     ∙ ap (λ (rs : List machine.Row). set rs i (row_of (name_at (place_of s) store) value)) over.rows_are
     ∙ set-set (rows_in d store) i _ (row_of (name_at (place_of s) store) value)
-    ∙ row_said d store n s value (with_rest t (string_in s store)) h at first
-    (meaning_cut (string_in s store).body bytes p l k t (body_length d store s h at) size short cut)
+    ∙ row_said d store n s value (with_rest t (string_in s store)) c.whole c.at first (value_cut d store after s bytes k t q c same)
+
+pub same_string : (a b : Str) → string a ≡ string b → a ≡ b
+same_string a b e = cc
 
 pub length_slice : {X : Type 0} (xs : List X) (a b : ℕ) → a ≤ b → b ≤ length xs → a + length (slice_range xs a b) ≡ b
 length_slice xs a b h l = omega (arith, length-take-le (b - a) (drop a xs) (rw length-drop (omega arith)))
+
+-- what marking leaves of the rest of a string
+pub marks_cut : (d : Dictionary) (store after : List ℕ) (s : StringPlace) (b k : ℕ) (sought : List ℕ) (mark : ℕ) → d.used ≤ length store → RowAt d (place_of s) → b ≡ s.start + s.name → length after ≡ length store → after ≡ splice store (b + s.extent.pointer) (b + s.extent.length) (slice_range after (b + s.extent.pointer) (b + s.extent.length)) → k ≤ (b + s.extent.length) - (b + s.extent.pointer) → take k (slice_range after (b + s.extent.pointer) (b + s.extent.length)) ≡ with_mark sought mark (slice_range store (b + s.extent.pointer) (b + s.extent.length)) → Cut d store after s (slice_range after (b + s.extent.pointer) (b + s.extent.length)) k (with_mark sought mark (rest_of (string_in s store)))
+marks_cut d store after s b k sought mark h at start long over short marked =
+    let p : ℕ = s.extent.pointer in
+    let l : ℕ = s.extent.length in
+    let here = spot d (place_of s) at in
+    let within : p ≤ l = s.extent.within in
+    let size = length_slice after (b + p) (b + l) (omega arith) (omega arith) in
+    record {
+      whole = h;
+      at = at;
+      size = omega arith;
+      short = omega arith;
+      cut = marked ∙ ap (λ j. with_mark sought mark (slice_range store (j + p) (j + l))) start ∙ ap (with_mark sought mark) (rest_in_store s store);
+      after_is = over ∙ ap (λ j. splice store (j + p) (j + l) (slice_range after (b + p) (b + l))) start;
+    }

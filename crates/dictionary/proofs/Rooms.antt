@@ -13,12 +13,11 @@ use Rattle.dictionary.specs.declared.finding.Place.{Place}
 use Rattle.dictionary.specs.declared.dictionary.Dictionary.{Dictionary}
 use Rattle.dictionary.specs.declared.rows.Row.{Row}
 use Rattle.dictionary.specs.declared.rows.RowMeaning.{RowMeaning}
-use Rattle.dictionary.specs.Decoding.{packed, body_size, row_size, row_in, meaning_in}
+use Rattle.dictionary.specs.Decoding.{body_size, row_size, row_in, meaning_in}
 use Rattle.dictionary.specs.Meant.{text_in, rows_in, classes_in, dictionary_in}
 use Rattle.dictionary.specs.Finding.{row_named, RowAt, Standing, name_at, body_at}
 use Rattle.dictionary.specs.Editing.{row_of, with_rows, Room, RowsEdited}
-use Rattle.dictionary.proofs.Packed.{length_packed}
-use Rattle.dictionary.proofs.Sizes.{row_measure, class_measure, rows_measured, body_measured, bytes_used, names_counted}
+use Rattle.dictionary.proofs.Sizes.{row_measure, class_measure, rows_measured, bytes_used, names_counted}
 use Rattle.dictionary.proofs.Located.{spot, read, before, sum_next}
 use Rattle.dictionary.proofs.Firsts.{with_row_at, with_row_new}
 use Rattle.area.specs.Pieces.{LiesClear}
@@ -136,3 +135,9 @@ row_means d store n p m k h stands same =
     ap (λ (x : Text). set (rows_in d store) p.index (row_of x m)) (name_stands d store n p h stands)
     ∙ ap (λ (x : Meaning). set (rows_in d store) p.index (row_of n x)) same
     ∙ sym (with_row_at n k (rows_in d store) p.index stands.first)
+
+-- the same, with the bytes of the rows as the code counts them
+pub body_copied : (d : Dictionary) (store : List ℕ) (p : Place) (m : RowMeaning) (from to size : ℕ) (text : List ℕ) → d.used ≤ length store → RowAt d p → (from ≤ to) × (to ≤ d.used) → body_size m ≡ to - from → size ≡ row_size p.row → text ≡ splice (text_in d store) (p.start + p.row.name) (p.start + size) (slice_range (text_in d store) from to) → Edited d store (set (vec_items d.rows) p.index (record { name = p.row.name; meaning = m })) (d.row_bytes - (p.start + size - (p.start + p.row.name)) + (to - from)) text (set (rows_in d store) p.index (row_of (name_at p store) (meaning_in m (slice_range store from to))))
+body_copied d store p m from to size text h at piece m_size size_is text_is =
+    let here = spot d p at in
+    body_replaced d store p m from to size _ _ text h at piece.0 piece.1 m_size refl size_is text_is (omega arith)

@@ -1,5 +1,5 @@
 -- A string whose row is changed: what it is from then on.
-use Rattle.std.proofs.Common.{◌≡◌, ℕ, ◌+◌, ◌≤◌, List, [], ◌∷◌, ◌++◌, length, set, take, drop, Some, sym, refl, ap, ◌∙◌, arith, length-append, length-drop}
+use Rattle.std.proofs.Common.{◌≡◌, ℕ, ◌+◌, ◌≤◌, List, [], ◌++◌, length, set, take, drop, Some, sym, ap, ◌∙◌, arith, length-append, length-drop}
 use Rattle.std.specs.List.{splice}
 use Rattle.std.proofs.lemmas.List.{length-take-le, drop_all, take_all, append-nil, take-append-drop}
 use Rattle.machine.specs.Texts.{Text, first_place}
@@ -8,7 +8,7 @@ use Rattle.machine.specs.Strings.{appended}
 use Rattle.dictionary.specs.declared.dictionary.Dictionary.{Dictionary}
 use Rattle.dictionary.specs.declared.string_place.StringPlace.{StringPlace}
 use Rattle.dictionary.specs.Meant.{rows_in}
-use Rattle.dictionary.specs.Finding.{row_named, RowAt, Standing, name_at, body_at}
+use Rattle.dictionary.specs.Finding.{row_named, RowAt, name_at}
 use Rattle.dictionary.specs.Editing.{row_of}
 use Rattle.dictionary.specs.Strings.{place_of, string_in}
 use Rattle.dictionary.proofs.Located.{spot}

@@ -6,13 +6,12 @@ use Rattle.std.proofs.lemmas.List.{take-append-le, drop-append-le, length-take-l
 use Rattle.std.proofs.lemmas.List.Sums.{sum_by-cons}
 use Rattle.machine.specs.Dictionary.{Meaning, string, built_in, Class, body_of, names_in, bytes_in}
 use Rattle.machine.specs.Dictionary as machine
-use Rattle.dictionary.specs.declared.rows.Row.{Row}
 use Rattle.dictionary.specs.declared.rows.ClassRow.{ClassRow}
 use Rattle.dictionary.specs.declared.rows.RowMeaning.{RowMeaning}
 use Rattle.dictionary.specs.declared.rows.RowMeaning.TheVariants as stored
 use Rattle.dictionary.specs.declared.dictionary.Dictionary.{Dictionary}
 use Rattle.dictionary.specs.Decoding.{packed, body_size, row_size, class_size, meaning_in, row_in, class_in}
-use Rattle.dictionary.specs.Meant.{text_in, rows_in, classes_in, dictionary_in}
+use Rattle.dictionary.specs.Meant.{text_in, dictionary_in}
 use Rattle.dictionary.specs.Editing.{row_of}
 use Rattle.dictionary.proofs.Packed.{Framed, length_packed}
 

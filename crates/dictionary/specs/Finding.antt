@@ -7,6 +7,7 @@ use Rattle.machine.specs.Dictionary as machine
 use Rattle.dictionary.specs.declared.dictionary.Dictionary.{Dictionary}
 use Rattle.dictionary.specs.declared.class_place.ClassPlace.{ClassPlace}
 use Rattle.dictionary.specs.declared.finding.Place.{Place}
+use Rattle.dictionary.specs.declared.rows.RowMeaning.{RowMeaning}
 use Rattle.dictionary.specs.Decoding.{body_size, row_size, class_size}
 use Rattle.dictionary.specs.Meant.{rows_in, classes_in}
 
@@ -26,9 +27,13 @@ pub record RowAt (d : Dictionary) (p : Place) : Type 0 where
   pub row : slice_get (vec_items d.rows) p.index ≡ Some p.row
   pub start : p.start ≡ sum_by row_size (take p.index (vec_items d.rows))
 
+-- row i is the first of that name
+abbrev pub FirstNamed : Dictionary → List ℕ → Text → ℕ → Type 0
+FirstNamed d store name i = first_place (row_named name) (rows_in d store) ≡ Some i
+
 -- it is the first row of that name
 pub record Standing (d : Dictionary) (store : List ℕ) (name : Text) (p : Place) : Type 0 where
-  pub first : first_place (row_named name) (rows_in d store) ≡ Some p.index
+  pub first : FirstNamed d store name p.index
   pub at : RowAt d p
 
 -- the bytes of its name and of its body, as they lie in the store
@@ -37,3 +42,7 @@ name_at p store = take p.row.name (drop p.start store)
 
 abbrev pub body_at : Place → List ℕ → Text
 body_at p store = take (body_size p.row.meaning) (drop (p.start + p.row.name) store)
+
+-- the same place, of a row that means this
+abbrev pub meaning_there : Place → RowMeaning → Place
+meaning_there p m = record { index = p.index; start = p.start; row = record { name = p.row.name; meaning = m } }

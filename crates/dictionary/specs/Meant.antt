@@ -1,5 +1,5 @@
 -- What a dictionary means, given the store that its bytes lie in.
-use Rattle.std.specs.Prelude.{ℕ, ◌+◌, ◌≤◌, Bool, false, List, take, drop, length, vec_items, slice_index_or, Some}
+use Rattle.std.specs.Prelude.{ℕ, Bool, false, List, take, drop, vec_items, slice_index_or}
 use Rattle.std.specs.List.{position}
 use Rattle.std.specs.Option.{unwrap_or}
 use Rattle.std.specs.Str.{bytes_eq}

@@ -4,7 +4,7 @@ ghost use Rattle.std.specs.List.{splice};
 ghost use Rattle.area.specs.Pieces.{LiesClear};
 ghost use Rattle.dictionary.specs.Decoding.{body_size, row_size, meaning_in};
 ghost use Rattle.dictionary.specs.Meant.{rows_in};
-ghost use Rattle.dictionary.specs.Finding.{RowAt, name_at, body_at};
+ghost use Rattle.dictionary.specs.Finding.{RowAt, name_at, body_at, meaning_there};
 ghost use Rattle.dictionary.specs.Editing.{row_of, RowsEdited};
 
 use crate::dictionary::Dictionary;
@@ -28,6 +28,7 @@ impl Dictionary {
         requires part { (part.start ≤ part.end) × (part.end ≤ body_size place.row.meaning) }
         requires size { body_size meaning + (part.end - part.start) ≡ body_size place.row.meaning + length piece.now }
         requires fits { self.old.used - (part.end - part.start) + length piece.now ≤ length store.old }
+        ensures place { RowAt self.new (meaning_there place meaning) }
         ensures row { rows_in self.new store.new ≡ slice_set (rows_in self.old store.old) place.index (row_of (name_at place store.old) (meaning_in meaning (splice (body_at place store.old) part.start part.end piece.now))) }
         ensures others { RowsEdited self.old self.new store.old store.new }
     {

@@ -5,7 +5,7 @@ ghost use Rattle.machine.specs.Texts.{Text, first_place};
 ghost use Rattle.machine.specs.Dictionary.{rest_of, change};
 ghost use Rattle.machine.specs.Strings.{matches, with_mark, with_rest};
 ghost use Rattle.dictionary.specs.Meant.{rows_in, dictionary_in};
-ghost use Rattle.dictionary.specs.Finding.{RowAt, row_named};
+ghost use Rattle.dictionary.specs.Finding.{RowAt, FirstNamed};
 ghost use Rattle.dictionary.specs.Editing.{Kept};
 ghost use Rattle.dictionary.specs.Strings.{place_of, string_in};
 
@@ -28,14 +28,24 @@ fn mark_part(store: &mut [u8], part: Range<usize>, sought: &[u8], mark: u8) -> M
 }
 
 impl Dictionary {
-    // Each match of a text behind the pointer becomes one mark. The answer says how many there are.
-    pub fn mark(&mut self, store: &mut [u8], string: StringPlace, sought: &[u8], mark: u8) -> usize
+    // Each match of a text behind the pointer of a string becomes one mark. The answer says how many there are.
+    pub fn mark(
+        &mut self,
+        store: &mut [u8],
+        string: &mut StringPlace,
+        sought: &[u8],
+        mark: u8,
+    ) -> usize
         requires whole { self.old.used ≤ length store.old }
-        requires place { RowAt self.old (place_of string) }
-        ensures matches { result ≡ matches sought.now (rest_of (string_in string store.old)) }
-        ensures meaning { (name : Text) → first_place (row_named name) (rows_in self.old store.old) ≡ Some string.index → dictionary_in self.new store.new ≡ change name (with_rest (with_mark sought.now mark (rest_of (string_in string store.old))) (string_in string store.old)) (dictionary_in self.old store.old) }
+        requires place { RowAt self.old (place_of string.old) }
+        ensures matches { result ≡ matches sought.now (rest_of (string_in string.old store.old)) }
+        ensures meaning { (name : Text) → FirstNamed self.old store.old name string.old.index → dictionary_in self.new store.new ≡ change name (with_rest (with_mark sought.now mark (rest_of (string_in string.old store.old))) (string_in string.old store.old)) (dictionary_in self.old store.old) }
+        ensures place { RowAt self.new (place_of string.new) }
+        ensures string { string_in string.new store.new ≡ with_rest (with_mark sought.now mark (rest_of (string_in string.old store.old))) (string_in string.old store.old) }
+        ensures named { (name : Text) → FirstNamed self.old store.old name string.old.index → FirstNamed self.new store.new name string.new.index }
         ensures kept { Kept self.old self.new store.new }
     {
+        let place = string.place();
         let pointer = string.extent.pointer;
         let length = string.extent.length;
         let body = string.body_start();
@@ -49,11 +59,12 @@ impl Dictionary {
         };
         self.edit(
             store,
-            string.place(),
+            place,
             shorter..length,
             &[],
             RowMeaning::String(extent),
         );
+        string.extent = extent;
         marked.matches
     }
 }

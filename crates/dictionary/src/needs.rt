@@ -4,7 +4,7 @@ ghost use Rattle.machine.specs.Texts.{Text, Code as AnyCode, first_place};
 ghost use Rattle.machine.specs.Dictionary.{Meaning, body_of, define, change, with_class, with_classes};
 ghost use Rattle.machine.specs.Strings.{appended};
 ghost use Rattle.dictionary.specs.Meant.{rows_in, classes_in, dictionary_in};
-ghost use Rattle.dictionary.specs.Finding.{RowAt, row_named};
+ghost use Rattle.dictionary.specs.Finding.{RowAt, FirstNamed};
 ghost use Rattle.dictionary.specs.Strings.{place_of, string_in};
 ghost use Rattle.dictionary.specs.Needing.{Takes, TakesClasses};
 
@@ -36,7 +36,7 @@ impl Dictionary {
     pub fn after_append(&self, string: StringPlace, more: usize) -> Needs
         requires place { RowAt self.now (place_of string) }
         requires small { self.now.used + more < 2 ^ 64 }
-        ensures { (store : List ℕ) (name text : Text) → self.now.used ≤ length store → first_place (row_named name) (rows_in self.now store) ≡ Some string.index → length text ≡ more → Takes result (change name (appended text (string_in string store)) (dictionary_in self.now store)) }
+        ensures { (store : List ℕ) (name text : Text) → self.now.used ≤ length store → FirstNamed self.now store name string.index → length text ≡ more → Takes result (change name (appended text (string_in string store)) (dictionary_in self.now store)) }
     {
         Needs {
             names: self.rows.len(),

@@ -7,5 +7,5 @@ pub struct StringPlace {
     pub(crate) index: usize,
     pub(crate) start: usize,
     pub(crate) name: usize,
-    pub(crate) extent: Extent,
+    pub extent: Extent,
 }

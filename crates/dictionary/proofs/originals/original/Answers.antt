@@ -1,5 +1,5 @@
 use Rattle.std.proofs.Common.{sym, ◌∙◌}
-use Rattle.dictionary.proofs.Flags.{place_is, original_is, no_original}
+use Rattle.dictionary.proofs.Flags.{place_is, original_is}
 use Rattle.dictionary.proofs.originals.original.Goals as goal
 
 pub returns : goal.returns

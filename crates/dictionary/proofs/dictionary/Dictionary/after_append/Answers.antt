@@ -1,4 +1,4 @@
-use Rattle.std.proofs.Common.{◌++◌, ◌∙◌, arith, length-append}
+use Rattle.std.proofs.Common.{◌∙◌, arith, length-append}
 use Rattle.machine.specs.Dictionary.{string}
 use Rattle.machine.specs.Strings.{appended}
 use Rattle.dictionary.specs.Strings.{place_of, string_in}

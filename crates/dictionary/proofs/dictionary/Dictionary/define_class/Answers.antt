@@ -1,4 +1,4 @@
-use Rattle.std.proofs.Common.{refl, ap, arith}
+use Rattle.std.proofs.Common.{ap}
 use Rattle.dictionary.specs.declared.rows.ClassRow.{ClassRow}
 use Rattle.dictionary.specs.Meant.{stands}
 use Rattle.dictionary.proofs.Meant.{other_lists}

@@ -1,7 +1,7 @@
-use Rattle.std.proofs.Common.{◌+◌, ◌-◌, vec_items, refl, ap, arith}
+use Rattle.std.proofs.Common.{vec_items, refl, ap, arith}
 use Rattle.dictionary.specs.Decoding.{packed, class_size, class_in}
 use Rattle.dictionary.proofs.Located.{spot}
-use Rattle.dictionary.proofs.Rooms.{body_replaced}
+use Rattle.dictionary.proofs.Rooms.{body_copied}
 use Rattle.dictionary.proofs.dictionary.Dictionary.edit_within.Goals as goal
 
 pub overflow_add-start : goal.overflow_add-start
@@ -28,33 +28,26 @@ pub invariant_of-self : goal.invariant_of-self
 invariant_of-self c =
     let d = c.args.self.now in
     let here = spot d c.args.place c.requires.place in
-    let after = body_replaced d c.args.store.now c.args.place c.args.meaning c.args.piece.start c.args.piece.end c.size.result _ (d.row_bytes - (c.args.place.start + c.size.result - (c.args.place.start + c.args.place.row.name)) + (c.args.piece.end - c.args.piece.start)) _
-    c.requires.whole c.requires.place c.requires.piece.0 c.requires.piece.1 c.requires.size refl c.size.ensures c.splice_within-self.ensures.text (omega (arith, c.size.ensures)) in
     record {
       rows_reserved = d.rows_reserved;
       classes_reserved = d.classes_reserved;
       rows_bounded = d.rows_bounded;
       classes_bounded = d.classes_bounded;
-      rows_filled = after.filled;
+      rows_filled = (body_copied d c.args.store.now c.args.place c.args.meaning c.args.piece.start c.args.piece.end c.size.result _ c.requires.whole c.requires.place c.requires.piece c.requires.size c.size.ensures c.splice_within-self.ensures.text).filled;
       classes_filled = omega (arith, d.classes_filled, c.splice_within-self.ensures.used, c.size.ensures);
     }
 
 pub returns-clause-row : goal.returns-clause-row
 returns-clause-row c =
     let d = c.args.self.now in
-    let here = spot d c.args.place c.requires.place in
-    let after = body_replaced d c.args.store.now c.args.place c.args.meaning c.args.piece.start c.args.piece.end c.size.result _ (d.row_bytes - (c.args.place.start + c.size.result - (c.args.place.start + c.args.place.row.name)) + (c.args.piece.end - c.args.piece.start)) _
-    c.requires.whole c.requires.place c.requires.piece.0 c.requires.piece.1 c.requires.size refl c.size.ensures c.splice_within-self.ensures.text (omega (arith, c.size.ensures)) in
-    after.rows_are
+    (body_copied d c.args.store.now c.args.place c.args.meaning c.args.piece.start c.args.piece.end c.size.result _ c.requires.whole c.requires.place c.requires.piece c.requires.size c.size.ensures c.splice_within-self.ensures.text).rows_are
 
 pub returns-clause-others : goal.returns-clause-others
 returns-clause-others c =
     let d = c.args.self.now in
     let here = spot d c.args.place c.requires.place in
-    let after = body_replaced d c.args.store.now c.args.place c.args.meaning c.args.piece.start c.args.piece.end c.size.result _ (d.row_bytes - (c.args.place.start + c.size.result - (c.args.place.start + c.args.place.row.name)) + (c.args.piece.end - c.args.piece.start)) _
-    c.requires.whole c.requires.place c.requires.piece.0 c.requires.piece.1 c.requires.size refl c.size.ensures c.splice_within-self.ensures.text (omega (arith, c.size.ensures)) in
     record {
       originals = refl;
-      classes = ap (packed class_size class_in (vec_items d.classes)) after.classes_are;
+      classes = ap (packed class_size class_in (vec_items d.classes)) (body_copied d c.args.store.now c.args.place c.args.meaning c.args.piece.start c.args.piece.end c.size.result _ c.requires.whole c.requires.place c.requires.piece c.requires.size c.size.ensures c.splice_within-self.ensures.text).classes_are;
       kept = record { most_rows = refl; whole = omega (arith, c.splice_within-self.ensures.used, c.splice_within-self.ensures.len, c.size.ensures) };
     }

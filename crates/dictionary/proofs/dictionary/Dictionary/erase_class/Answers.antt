@@ -1,4 +1,4 @@
-use Rattle.std.proofs.Common.{[], sym, refl, ap, arith}
+use Rattle.std.proofs.Common.{[], sym, refl, arith}
 use Rattle.dictionary.specs.declared.rows.ClassRow.{ClassRow}
 use Rattle.dictionary.specs.Meant.{rows_in, classes_in}
 use Rattle.dictionary.specs.Meant.{stands}

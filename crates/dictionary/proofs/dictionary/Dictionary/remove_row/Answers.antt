@@ -1,9 +1,7 @@
-use Rattle.std.proofs.Common.{◌+◌, ◌-◌, [], vec_items, refl, ap, ◌∙◌, arith}
-use Rattle.std.specs.List.{splice}
+use Rattle.std.proofs.Common.{vec_items, refl, ap, arith}
 use Rattle.dictionary.specs.Decoding.{packed, class_size, class_in}
-use Rattle.dictionary.specs.Meant.{text_in}
 use Rattle.dictionary.proofs.Located.{spot}
-use Rattle.dictionary.proofs.Changed.{row_removed}
+use Rattle.dictionary.proofs.Changed.{row_cut_out}
 use Rattle.dictionary.proofs.dictionary.Dictionary.remove_row.Goals as goal
 
 pub size-size-requires : goal.size-size-requires
@@ -25,33 +23,26 @@ pub invariant_of-self : goal.invariant_of-self
 invariant_of-self c =
     let d = c.args.self.now in
     let here = spot d c.args.place c.requires.place in
-    let text = c.remove-self.ensures.text ∙ ap (λ k. splice (text_in d c.args.store.now) c.args.place.start (c.args.place.start + k) []) c.size-size.ensures in
-    let after = row_removed d c.args.store.now c.args.place _ (d.row_bytes - c.size-size.result) _ c.requires.whole c.requires.place c.remove.ensures.items text (omega arith) in
     record {
       rows_reserved = omega (arith, c.remove.ensures.capacity);
       classes_reserved = d.classes_reserved;
       rows_bounded = omega (arith, c.remove.ensures.len);
       classes_bounded = d.classes_bounded;
-      rows_filled = after.filled;
+      rows_filled = (row_cut_out d c.args.store.now c.args.place c.size-size.result _ _ c.requires.whole c.requires.place c.size-size.ensures c.remove.ensures.items c.remove-self.ensures.text).filled;
       classes_filled = omega (arith, d.classes_filled, c.remove-self.ensures.used);
     }
 
 pub returns-clause-rows : goal.returns-clause-rows
 returns-clause-rows c =
     let d = c.args.self.now in
-    let here = spot d c.args.place c.requires.place in
-    let text = c.remove-self.ensures.text ∙ ap (λ k. splice (text_in d c.args.store.now) c.args.place.start (c.args.place.start + k) []) c.size-size.ensures in
-    let after = row_removed d c.args.store.now c.args.place _ (d.row_bytes - c.size-size.result) _ c.requires.whole c.requires.place c.remove.ensures.items text (omega arith) in
-    after.rows_are
+    (row_cut_out d c.args.store.now c.args.place c.size-size.result _ _ c.requires.whole c.requires.place c.size-size.ensures c.remove.ensures.items c.remove-self.ensures.text).rows_are
 
 pub returns-clause-others : goal.returns-clause-others
 returns-clause-others c =
     let d = c.args.self.now in
     let here = spot d c.args.place c.requires.place in
-    let text = c.remove-self.ensures.text ∙ ap (λ k. splice (text_in d c.args.store.now) c.args.place.start (c.args.place.start + k) []) c.size-size.ensures in
-    let after = row_removed d c.args.store.now c.args.place _ (d.row_bytes - c.size-size.result) _ c.requires.whole c.requires.place c.remove.ensures.items text (omega arith) in
     record {
       originals = refl;
-      classes = ap (packed class_size class_in (vec_items d.classes)) after.classes_are;
+      classes = ap (packed class_size class_in (vec_items d.classes)) (row_cut_out d c.args.store.now c.args.place c.size-size.result _ _ c.requires.whole c.requires.place c.size-size.ensures c.remove.ensures.items c.remove-self.ensures.text).classes_are;
       kept = record { most_rows = refl; whole = omega (arith, c.remove-self.ensures.used, c.remove-self.ensures.len) };
     }

@@ -1,14 +1,7 @@
-use Rattle.std.proofs.Common.{[], length, set, vec_items, refl, ap, ◌∙◌, arith}
+use Rattle.std.proofs.Common.{[], refl, ap, ◌∙◌, arith}
 use Rattle.std.specs.Prelude.{◌+◌}
-use Rattle.std.specs.List.{sum_by}
-use Rattle.std.proofs.lemmas.List.Sums.{sum_by-set}
-use Rattle.std.proofs.lemmas.Option.{get_or_from_slice_get}
-use Rattle.dictionary.specs.Decoding.{packed, row_size, class_size, class_in}
-use Rattle.dictionary.specs.Meant.{text_in, rows_in, classes_in}
-use Rattle.dictionary.specs.Finding.{name_at, body_at}
-use Rattle.dictionary.specs.Editing.{row_of}
+use Rattle.dictionary.specs.Meant.{text_in, classes_in}
 use Rattle.dictionary.specs.Strings.{place_of, string_in}
-use Rattle.dictionary.proofs.Located.{spot}
 use Rattle.dictionary.proofs.Changed.{body_changed, same_size}
 use Rattle.dictionary.specs.Meant.{stands}
 use Rattle.dictionary.proofs.Meant.{parts}
