@@ -1,0 +1,14 @@
+pub mod Packed
+pub mod Sizes
+pub mod Flags
+pub mod Meant
+pub mod Firsts
+pub mod Located
+pub mod Edited
+pub mod Changed
+pub mod Rooms
+pub mod Said
+pub mod ClassRows
+pub mod Taken
+pub mod Looked
+pub mod Overwritten
