@@ -1,7 +1,7 @@
 -- The parts of an area, after a copy within it or a write. Assumes nothing.
-use Rattle.std.proofs.Common.{◌≡◌, ℕ, ◌+◌, ◌-◌, ◌≤◌, List, ◌++◌, length, take, drop, ap, ap₂, sym, refl, ◌∙◌, arith, length-drop, length-take, length-append}
+use Rattle.std.proofs.Common.{◌≡◌, ℕ, ◌+◌, ◌-◌, ◌≤◌, List, ◌++◌, length, take, drop, ap, ap₂, sym, ◌∙◌, arith, length-drop, length-append}
 use Rattle.std.proofs.Math.Seq.{paste, drop-paste, take-paste, take-add}
-use Rattle.std.proofs.lemmas.List.{drop-drop, drop-take, take_at, drop_at, take-take, take_all, append_assoc, take-append-le, length-take-le}
+use Rattle.std.proofs.lemmas.List.{drop-drop, drop-take, take_at, drop_at, take-take, append_assoc, take-append-le, length-take-le}
 
 -- past the part that was pasted
 pub drop_past_paste : (d : List ℕ) (at : ℕ) (s : List ℕ) (n m : ℕ) → at + n ≤ m → at ≤ length d → n ≤ length s → drop m (paste d at s n) ≡ drop m d

@@ -2,8 +2,12 @@
 
 #![tactic(auto)]
 
+mod front;
+mod matching;
 mod moving;
 mod texts;
 mod writing;
 
+pub use front::rule_at_front;
+pub use matching::find_match;
 pub use texts::ScanTexts;
