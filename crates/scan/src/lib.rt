@@ -5,9 +5,14 @@
 mod front;
 mod matching;
 mod moving;
+mod open_calls;
+mod parameters;
+mod roll;
 mod texts;
 mod writing;
 
 pub use front::rule_at_front;
 pub use matching::find_match;
+pub use parameters::Parameters;
+pub use roll::Roll;
 pub use texts::ScanTexts;
