@@ -1,3 +1,5 @@
 pub mod Texts
 pub mod Writing
 pub mod Standing
+pub mod Meeting
+pub mod Fronts

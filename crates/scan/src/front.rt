@@ -1,6 +1,7 @@
 // Which rule the front of the right text asks for.
-ghost use Rattle.std.specs.Prelude.{◌≡◌, ◌∷◌};
+ghost use Rattle.std.specs.Prelude.{◌≡◌, ◌+◌, ◌≤◌, ◌∷◌, length};
 ghost use Rattle.machine.specs.Scan.{rule as rule_for};
+ghost use Rattle.scan.specs.Fronts.{width};
 
 use code::Code;
 use machine::Rule;
@@ -8,7 +9,8 @@ use signs::Signs;
 
 // What a `#` with the text behind it asks for.
 fn opening<C: Code>(signs: &Signs<C>, rest: &[u8]) -> Rule
-    ensures { (inside : _) → result ≡ rule_for C.Code.meaning inside (C.Code.meaning.named 35 ∷ rest.now) }
+    ensures value { (inside : _) → result ≡ rule_for C.Code.meaning inside (C.Code.meaning.named 35 ∷ rest.now) }
+    ensures within { width result ≤ length rest.now + 1 }
 {
     if rest.starts_with(&[signs.sharp, signs.less]) {
         Rule::OpenPassive
@@ -20,7 +22,8 @@ fn opening<C: Code>(signs: &Signs<C>, rest: &[u8]) -> Rule
 }
 
 pub fn rule_at_front<C: Code>(signs: &Signs<C>, inside: bool, right: &[u8]) -> Rule
-    ensures { result ≡ rule_for C.Code.meaning inside right.now }
+    ensures value { result ≡ rule_for C.Code.meaning inside right.now }
+    ensures within { 1 ≤ length right.now → width result ≤ length right.now }
 {
     let [first, rest @ ..] = right else {
         return Rule::Other;

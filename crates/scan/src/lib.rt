@@ -8,6 +8,7 @@ mod moving;
 mod open_calls;
 mod parameters;
 mod roll;
+mod rules;
 mod texts;
 mod writing;
 
@@ -15,4 +16,5 @@ pub use front::rule_at_front;
 pub use matching::find_match;
 pub use parameters::Parameters;
 pub use roll::Roll;
+pub use rules::follow;
 pub use texts::ScanTexts;
