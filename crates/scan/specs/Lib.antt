@@ -3,3 +3,4 @@ pub mod Writing
 pub mod Standing
 pub mod Meeting
 pub mod Fronts
+pub mod Running

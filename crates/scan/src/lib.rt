@@ -9,6 +9,7 @@ mod open_calls;
 mod parameters;
 mod roll;
 mod rules;
+mod running;
 mod texts;
 mod writing;
 
@@ -17,4 +18,5 @@ pub use matching::find_match;
 pub use parameters::Parameters;
 pub use roll::Roll;
 pub use rules::follow;
+pub use running::plain_run;
 pub use texts::ScanTexts;
