@@ -18,5 +18,5 @@ pub use matching::find_match;
 pub use parameters::Parameters;
 pub use roll::Roll;
 pub use rules::follow;
-pub use running::plain_run;
+pub use running::{pass_plain, plain_run};
 pub use texts::ScanTexts;

@@ -1,10 +1,14 @@
 // Plain text, which moves in runs.
-ghost use Rattle.std.specs.Prelude.{◌≤◌, drop, length, MatchBool};
-ghost use Rattle.scan.specs.Running.{ByLast, ByAnother, PlainRun};
+ghost use Rattle.std.specs.Prelude.{◌≤◌, drop, length, MatchBool, IsOkAnd};
+ghost use Rattle.scan.specs.Running.{ByLast, ByAnother, PlainRun, Passes};
 
 use crate::front::rule_at_front;
+use crate::roll::Roll;
+use crate::texts::ScanTexts;
 use code::Code;
 use machine::Rule;
+use meter::{Meter, Question};
+use refusal::Refusal;
 use signs::Signs;
 
 // Does a rule other than the last concern a text from a place on?
@@ -22,4 +26,24 @@ pub fn plain_run<C: Code>(signs: &Signs<C>, inside: bool, right: &[u8]) -> usize
     (0..right.len())
         .find(|at| is_sign_at(signs, inside, right, *at))
         .unwrap_or(right.len())
+}
+
+// The plain run at the front of the right text moves left in one go, as far as steps are left; each of its bytes is a step.
+// The answer is how many steps are made then.
+pub fn pass_plain<C: Code>(
+    signs: &Signs<C>,
+    texts: &mut ScanTexts<'_>,
+    roll: &Roll,
+    meter: &mut Meter,
+    steps: usize,
+) -> Result<usize, Refusal>
+    ensures { IsOkAnd result (λ made. Passes C.Code.meaning texts.old texts.new roll.now meter.old meter.new steps made) }
+{
+    let run = plain_run(signs, roll.is_inside(), texts.right());
+    let run = run.min(meter.bounds.steps.saturating_sub(steps));
+    if run > 0 {
+        meter.put(Question::Step, steps + run)?;
+        texts.move_front(run);
+    }
+    Ok(steps + run)
 }
