@@ -2,6 +2,8 @@
 
 #![tactic(auto)]
 
+mod changing;
+mod fields;
 mod front;
 mod matching;
 mod moving;
@@ -17,6 +19,6 @@ pub use front::rule_at_front;
 pub use matching::find_match;
 pub use parameters::Parameters;
 pub use roll::Roll;
-pub use rules::follow;
+pub use rules::{end_of_text, follow};
 pub use running::{pass_plain, plain_run};
 pub use texts::ScanTexts;

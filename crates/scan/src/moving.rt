@@ -49,8 +49,8 @@ impl<'a> ScanTexts<'a> {
     {
         let (left, right) = (self.left, self.right);
         self.area.copy_within(right..right + n, left);
-        self.left += n;
-        self.right += n;
+        self.left = left + n;
+        self.right = right + n;
     }
 
     // The left text is cut back to its first bytes, if it has more.

@@ -1,33 +1,15 @@
-// What is read off the roll.
-ghost use Rattle.std.specs.Prelude.{◌≡◌, ℕ, ◌+◌, ◌-◌, ◌<◌, ◌≤◌, [], false, true, take, drop, length, slice_index_or, MatchOption, IfOk};
+// The innermost call, as it is read off the roll.
+ghost use Rattle.std.specs.Prelude.{◌≡◌, ℕ, ◌<◌, ◌≤◌, false, true, length, MatchOption};
 ghost use Rattle.machine.specs.Texts.{not_empty};
-ghost use Rattle.machine.specs.World.{World, parameter};
-ghost use Rattle.machine.specs.Scan.{opens, entry_at, field, innermost as innermost_in, called_name, parameters as parameters_in};
+ghost use Rattle.machine.specs.World.{World};
+ghost use Rattle.machine.specs.Scan.{opens, is_active, entry_at, innermost as innermost_in, called_name, parameters as parameters_in};
 ghost use Rattle.scan.specs.Standing.{state_in};
 
+use crate::fields::{behind, field};
 use crate::parameters::Parameters;
 use crate::roll::Roll;
 use crate::texts::ScanTexts;
 use machine::{Begins, RollEntry};
-use std::alloc::{AllocError, Global};
-
-// A part of a text, as far as the text has it.
-fn part(text: &[u8], start: usize, end: usize) -> &[u8]
-    ensures { result.now ≡ take (end - start) (drop start text.now) }
-{
-    text.get(start..end.min(text.len())).unwrap_or(&[])
-}
-
-// The text of an entry: up to where the next one begins, or to the end.
-fn field<'a>(entries: &[RollEntry], left: &'a [u8], at: usize) -> &'a [u8]
-    ensures { result.now ≡ field entries.now left.now at }
-{
-    match entries.get(at..) {
-        Some([entry, next, ..]) => part(left, entry.at, next.at),
-        Some([entry]) => part(left, entry.at, left.len()),
-        _ => left,
-    }
-}
 
 // The last entry that opens a call.
 fn last_opening(entries: &[RollEntry]) -> Option<usize>
@@ -38,28 +20,7 @@ fn last_opening(entries: &[RollEntry]) -> Option<usize>
         .rposition(|entry| entry.begins != Begins::Parameter)
 }
 
-// The entries behind one.
-fn behind(entries: &[RollEntry], at: usize) -> &[RollEntry]
-    requires { at ≤ length entries.now }
-    ensures { result.now ≡ drop (at + 1) entries.now }
-{
-    match &entries[at..] {
-        [_, rest @ ..] => rest,
-        [] => &[],
-    }
-}
-
 impl Roll {
-    // An empty roll; an error only for want of memory.
-    pub fn new(heap: Global, limit: usize) -> Result<Roll, AllocError>
-        ensures { IfOk result (λ r. (r.entries.items ≡ []) × (r.limit ≡ limit)) }
-    {
-        Ok(Roll {
-            entries: Vec::with_capacity(heap, limit)?,
-            limit,
-        })
-    }
-
     // Is a call open?
     pub fn is_inside(&self) -> bool
         ensures { result ≡ not_empty self.now.entries.items }
@@ -83,6 +44,24 @@ impl Roll {
         self.entries[at]
     }
 
+    // Does the value of the innermost call go before the right text?
+    pub fn is_active(&self) -> bool
+        ensures { result ≡ is_active (entry_at self.now.entries.items (innermost_in self.now.entries.items)).begins }
+    {
+        self.entries
+            .get(self.innermost())
+            .is_some_and(|entry| entry.begins == Begins::ActiveCall)
+    }
+
+    // Where the innermost call begins in the left text.
+    pub fn start(&self) -> usize
+        ensures { result ≡ (entry_at self.now.entries.items (innermost_in self.now.entries.items)).at }
+    {
+        self.entries
+            .get(self.innermost())
+            .map_or(0, |entry| entry.at)
+    }
+
     // The name of the innermost call.
     pub fn name<'a>(&self, texts: &'a ScanTexts<'_>) -> &'a [u8]
         ensures { (w : World) → result.now ≡ called_name (state_in texts.now self.now w) }
@@ -97,33 +76,6 @@ impl Roll {
         Parameters {
             left: texts.left(),
             entries: behind(&self.entries, self.innermost()),
-        }
-    }
-
-    // Only the first entries stay.
-    pub fn truncate(&mut self, len: usize)
-        ensures entries { self.new.entries.items ≡ take len self.old.entries.items }
-        ensures limit { self.new.limit ≡ self.old.limit }
-    {
-        self.entries.truncate(len);
-    }
-}
-
-impl<'a> Parameters<'a> {
-    pub fn len(&self) -> usize
-        ensures { result ≡ length self.now }
-    {
-        self.entries.len()
-    }
-
-    // A parameter, or nothing where there are fewer.
-    pub fn get(&self, n: usize) -> &'a [u8]
-        ensures { result.now ≡ parameter n self.now }
-    {
-        if n < self.entries.len() {
-            field(self.entries, self.left, n)
-        } else {
-            &[]
         }
     }
 }

@@ -1,4 +1,8 @@
 // The parameters of a call, which lie in the left text.
+ghost use Rattle.std.specs.Prelude.{◌≡◌, length};
+ghost use Rattle.machine.specs.World.{parameter};
+
+use crate::fields::field;
 use machine::RollEntry;
 use std::marker::Model;
 
@@ -17,4 +21,23 @@ impl<'a> Model for Parameters<'a> {
     ghost Value = { List Text };
 
     ghost view = { λ p. map (field p.entries.now p.left.now) (range_with_len 0 (length p.entries.now)) };
+}
+
+impl<'a> Parameters<'a> {
+    pub fn len(&self) -> usize
+        ensures { result ≡ length self.now }
+    {
+        self.entries.len()
+    }
+
+    // A parameter, or nothing where there are fewer.
+    pub fn get(&self, n: usize) -> &'a [u8]
+        ensures { result.now ≡ parameter n self.now }
+    {
+        if n < self.entries.len() {
+            field(self.entries, self.left, n)
+        } else {
+            &[]
+        }
+    }
 }

@@ -1,6 +1,6 @@
 // The rules of the scan but the call's.
 ghost use Rattle.std.specs.Prelude.{◌≡◌, ◌≢◌, ◌≤◌, ◌++◌, take, drop, length, IfErr};
-ghost use Rattle.machine.specs.Scan.{entering, by_rule};
+ghost use Rattle.machine.specs.Scan.{entering, by_rule, ending};
 ghost use Rattle.scan.specs.Texts.{left_of, right_of, Become};
 ghost use Rattle.scan.specs.Fronts.{width};
 ghost use Rattle.scan.specs.Meeting.{Goes};
@@ -88,6 +88,16 @@ pub fn follow<C: Code>(
         Rule::Separator => return enter(Begins::Parameter, 1, texts, roll, meter),
         Rule::Close => unreachable!(),
         Rule::Other => texts.move_front(1),
+    }
+    Ok(())
+}
+
+// The end of the text, which stands outside of any call.
+pub fn end_of_text(roll: &Roll) -> Result<(), Refusal>
+    ensures { (texts : _) (meter : _) → Goes ending texts texts roll.now roll.now meter meter result }
+{
+    if roll.is_inside() {
+        return Err(Refusal::CallOpen);
     }
     Ok(())
 }

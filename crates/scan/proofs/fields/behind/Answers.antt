@@ -1,6 +1,6 @@
 use Rattle.std.proofs.Common.{drop}
 use Rattle.std.proofs.lemmas.List.{take_rest, drop-drop}
-use Rattle.scan.proofs.open_calls.behind.Goals as goal
+use Rattle.scan.proofs.fields.behind.Goals as goal
 
 pub returns-in-len1-up : goal.returns-in-len1-up
 returns-in-len1-up c =
