@@ -1,0 +1,6 @@
+pub mod Texts
+pub mod Writing
+pub mod Standing
+pub mod Meeting
+pub mod Fronts
+pub mod Running
