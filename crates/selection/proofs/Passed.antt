@@ -1,7 +1,6 @@
 -- Passing characters: what one more byte takes.
 use Rattle.std.proofs.Common.{◌≡◌, ℕ, zero, suc, ◌+◌, ◌-◌, ◌<◌, ◌≤◌, Bool, cond, [], ◌∷◌, length, drop, get_or, refl, ◌∙◌, arith}
 use Rattle.std.proofs.lemmas.List.{at_drop_more, at_drop_all}
-use Rattle.std.proofs.lemmas.Bool.{cond_both}
 use Rattle.code.specs.Meaning.{marked}
 use Rattle.machine.specs.Texts.{Text, Code}
 use Rattle.machine.specs.Selection.{bytes_to_pass}
@@ -22,10 +21,3 @@ one_byte code (suc n) b bs r h e = let n_is : suc n - 1 ≡ n = omega arith in r
 pub passed_more : (code : Code) (n : ℕ) (t : Text) (i : ℕ) (r : Bool) → i < length t → 0 < n → marked code (get_or t i 0) ≡ r
     → bytes_to_pass code n (drop i t) ≡ 1 + cond r (bytes_to_pass code n (drop (i + 1) t)) (bytes_to_pass code (n - 1) (drop (i + 1) t))
 passed_more code n t i r h some e = at_drop_more (bytes_to_pass code n) t i 0 h ∙ one_byte code n (get_or t i 0) (drop (i + 1) t) r some e
-
-pub passed_within : (code : Code) (n : ℕ) (t : Text) → bytes_to_pass code n t ≤ length t
-passed_within code zero t = omega arith
-passed_within code (suc n) [] = omega arith
-passed_within code (suc n) (b ∷ bs) =
-    cond_both (marked code b) (bytes_to_pass code (suc n) bs) (bytes_to_pass code n bs) (λ k. suc k ≤ suc (length bs))
-    (λ e. omega (arith, passed_within code (suc n) bs)) (λ e. omega (arith, passed_within code n bs))

@@ -1,5 +1,5 @@
-use Rattle.std.proofs.Common.{◌≡◌, map, ap, ◌∙◌, refl, rules, tests}
-use Rattle.std.specs.Ordering.{nat_cmp, is_lt}
+use Rattle.std.proofs.Common.{◌≡◌, map, refl, rules, tests}
+use Rattle.std.specs.Ordering.{nat_cmp}
 use Rattle.std.proofs.lemmas.Iterator.{YieldsList-from_slice, YieldsList-from_map}
 use Rattle.std.proofs.lemmas.Iterator.Consumers.{YieldsList-at}
 use Rattle.std.proofs.lemmas.Iterator.Search.{cmp_from_yields_List}
@@ -16,4 +16,5 @@ returns g c =
     let ordered : c.cmp.result ≡ slice_cmp nat_cmp (map rank one) (map rank other) =
     cmp_from_yields_List (λ x y. y ≡ x) _ nat_cmp _ c.cmp.ensures.ran (YieldsList-from_map _ rank (YieldsList-from_slice one (cc)) c.map.ensures.closure (λ x r q k. search (rules, tests)))
     (λ it e. YieldsList-at e (YieldsList-from_map _ rank (YieldsList-from_slice other (cc)) c.map-2.ensures.closure (λ x r q k. search (rules, tests)))) (λ x y. refl) in
-    c.is_lt.ensures ∙ ap is_lt ordered ∙ lower_is g.C.Code.meaning one other
+    let lower = lower_is g.C.Code.meaning one other in
+    cc
