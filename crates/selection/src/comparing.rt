@@ -22,7 +22,7 @@ pub fn is_lower<C: Code>(signs: &Signs<C>, one: &[u8], other: &[u8]) -> bool
         .is_lt()
 }
 
-// One of two texts.
+// The one text, or the other.
 pub fn choose<'a>(first: bool, one: &'a [u8], other: &'a [u8]) -> &'a [u8]
     ensures text { result.now ≡ (if first then one.now else other.now) }
     ensures len { length result.now ≡ (if first then length one.now else length other.now) }

@@ -14,7 +14,9 @@ returns g c =
     let one = c.args.one.now in
     let other = c.args.other.now in
     let ordered : c.cmp.result ≡ slice_cmp nat_cmp (map rank one) (map rank other) =
-    cmp_from_yields_List (λ x y. y ≡ x) _ nat_cmp _ c.cmp.ensures.ran (YieldsList-from_map _ rank (YieldsList-from_slice one (cc)) c.map.ensures.closure (λ x r q k. search (rules, tests)))
-    (λ it e. YieldsList-at e (YieldsList-from_map _ rank (YieldsList-from_slice other (cc)) c.map-2.ensures.closure (λ x r q k. search (rules, tests)))) (λ x y. refl) in
+    cmp_from_yields_List (λ x y. y ≡ x) _ nat_cmp _ c.cmp.ensures.ran
+    (YieldsList-from_map _ rank (YieldsList-from_slice one (cc)) c.map.ensures.closure (λ x r q k. search (rules, tests)))
+    (λ it e. YieldsList-at e (YieldsList-from_map _ rank (YieldsList-from_slice other (cc)) c.map-2.ensures.closure (λ x r q k. search (rules, tests))))
+    (λ x y. refl) in
     let lower = lower_is g.C.Code.meaning one other in
     cc

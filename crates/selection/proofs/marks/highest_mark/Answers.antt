@@ -8,9 +8,10 @@ use Rattle.selection.proofs.marks.highest_mark.Goals as goal
 
 pub returns : goal.returns
 returns g c =
+    let code = g.C.Code.meaning in
     let body = c.args.body.now in
-    let numbers = filter_map g.C.Code.meaning.mark_number body in
-    let most : c.max.result ≡ reduce max numbers =
+    let most : c.max.result ≡ reduce max (filter_map code.mark_number body) =
     sym (option_map_id c.max.result)
-    ∙ max_from_yields_List c.filter_map.result c.max.result c.max.ensures.ran (YieldsList-from_filter_map _ g.C.Code.meaning.mark_number (YieldsList-from_slice body (cc)) c.filter_map.ensures.closure (λ x r q k. search (rules, tests))) in
-    c.unwrap_or.ensures ∙ ap (λ o. unwrap_or o 0) most ∙ highest_is g.C.Code.meaning body
+    ∙ max_from_yields_List c.filter_map.result c.max.result c.max.ensures.ran
+    (YieldsList-from_filter_map _ code.mark_number (YieldsList-from_slice body (cc)) c.filter_map.ensures.closure (λ x r q k. search (rules, tests))) in
+    c.unwrap_or.ensures ∙ ap (λ o. unwrap_or o 0) most ∙ highest_is code body
