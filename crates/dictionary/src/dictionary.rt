@@ -14,8 +14,9 @@ pub struct Dictionary {
     // strings and copied built-ins
     pub(crate) rows: Vec<Row>,
     pub(crate) classes: Vec<ClassRow>,
-    // bytes of the store that the rows take, and with the names of the classes behind them
+    // bytes of the store that the rows take
     pub(crate) row_bytes: usize,
+    // those, and behind them the bytes of the names of classes: the bytes in use
     pub(crate) used: usize,
     // the most rows that there is memory for
     pub(crate) most_rows: usize,

@@ -26,5 +26,5 @@ mod strings;
 pub use amounts::{ClassNeeds, Needs};
 pub use dictionary::Dictionary;
 pub use meaning::Meaning;
-pub use rows::{ClassRow, Extent, Row, RowMeaning};
+pub use rows::Extent;
 pub use string_place::StringPlace;

@@ -1,10 +1,10 @@
 // Marks in a string.
-ghost use Rattle.std.specs.Prelude.{◌≡◌, ◌-◌, ◌≤◌, Some, length, take, slice_range};
+ghost use Rattle.std.specs.Prelude.{◌≡◌, ◌-◌, ◌≤◌, length, take, slice_range};
 ghost use Rattle.std.specs.List.{splice};
-ghost use Rattle.machine.specs.Texts.{Text, first_place};
+ghost use Rattle.machine.specs.Texts.{Text};
 ghost use Rattle.machine.specs.Dictionary.{rest_of, change};
 ghost use Rattle.machine.specs.Strings.{matches, with_mark, with_rest};
-ghost use Rattle.dictionary.specs.Meant.{rows_in, dictionary_in};
+ghost use Rattle.dictionary.specs.Meant.{dictionary_in};
 ghost use Rattle.dictionary.specs.Finding.{RowAt, FirstNamed};
 ghost use Rattle.dictionary.specs.Editing.{Kept};
 ghost use Rattle.dictionary.specs.Strings.{place_of, string_in};

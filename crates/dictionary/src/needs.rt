@@ -1,9 +1,9 @@
 // What a definition would need, asked before it is done.
-ghost use Rattle.std.specs.Prelude.{◌≡◌, ◌+◌, ◌^◌, ◌<◌, ◌≤◌, ℕ, List, Bool, Some, length};
-ghost use Rattle.machine.specs.Texts.{Text, Code as AnyCode, first_place};
+ghost use Rattle.std.specs.Prelude.{◌≡◌, ◌+◌, ◌^◌, ◌<◌, ◌≤◌, ℕ, List, Bool, length};
+ghost use Rattle.machine.specs.Texts.{Text, Code as AnyCode};
 ghost use Rattle.machine.specs.Dictionary.{Meaning, body_of, define, change, with_class, with_classes};
 ghost use Rattle.machine.specs.Strings.{appended};
-ghost use Rattle.dictionary.specs.Meant.{rows_in, classes_in, dictionary_in};
+ghost use Rattle.dictionary.specs.Meant.{classes_in, dictionary_in};
 ghost use Rattle.dictionary.specs.Finding.{RowAt, FirstNamed};
 ghost use Rattle.dictionary.specs.Strings.{place_of, string_in};
 ghost use Rattle.dictionary.specs.Needing.{Takes, TakesClasses};

@@ -1,9 +1,9 @@
 // A string of the dictionary, and what is done to it.
-ghost use Rattle.std.specs.Prelude.{◌≡◌, ◌+◌, ◌^◌, ◌<◌, ◌≤◌, ℕ, List, Some, length};
-ghost use Rattle.machine.specs.Texts.{Text, first_place};
+ghost use Rattle.std.specs.Prelude.{◌≡◌, ◌+◌, ◌^◌, ◌<◌, ◌≤◌, ℕ, List, length};
+ghost use Rattle.machine.specs.Texts.{Text};
 ghost use Rattle.machine.specs.Dictionary.{rest_of, change};
 ghost use Rattle.machine.specs.Strings.{appended};
-ghost use Rattle.dictionary.specs.Meant.{rows_in, dictionary_in};
+ghost use Rattle.dictionary.specs.Meant.{dictionary_in};
 ghost use Rattle.dictionary.specs.Finding.{RowAt, FirstNamed};
 ghost use Rattle.dictionary.specs.Editing.{Kept};
 ghost use Rattle.dictionary.specs.Strings.{place_of, string_in};
