@@ -1,5 +1,5 @@
 -- What is read off a roll. Assumes nothing.
-use Rattle.std.proofs.Common.{◌≡◌, ℕ, zero, suc, ◌+◌, ◌-◌, ◌<◌, ◌≤◌, Bool, true, false, cond, eqb, ltb, List, [], ◌∷◌, length, map, drop, take, Some, None, Option, refl, sym, ap, ap₂, ◌∙◌, arith, length-drop, MatchOption}
+use Rattle.std.proofs.Common.{◌≡◌, ℕ, zero, suc, ◌+◌, ◌-◌, ◌<◌, ◌≤◌, Bool, true, false, cond, eqb, ltb, List, [], ◌∷◌, length, map, drop, take, Some, None, Option, refl, sym, ap, ap₂, ◌∙◌, arith, length-drop}
 use Rattle.std.specs.Option.{unwrap_or}
 use Rattle.std.specs.List.{range_with_len}
 use Rattle.std.proofs.lemmas.Bool.Decides.{nat_tests}
@@ -7,17 +7,15 @@ use Rattle.std.proofs.lemmas.Bool.{cond-true, cond-false, eqb-true, eqb-false}
 use Rattle.std.proofs.lemmas.List.{get_or-drop}
 use Rattle.machine.specs.declared.roll.RollEntry.{RollEntry}
 use Rattle.machine.specs.Texts.{Text}
+use Rattle.scan.specs.Openings.{Opens, LastOpening}
 use Rattle.machine.specs.Scan.{opens, entry_at, opening, innermost, field, field_end}
 
 module _ (roll : List RollEntry) where
-  abbrev Opens : ℕ → Bool → Type 0
-  Opens k b = opens (entry_at roll k).begins ≡ b
-
-  none_opens : (n : ℕ) → ((k : ℕ) → k ≤ n → Opens k false) → opening roll n ≡ 0
+  none_opens : (n : ℕ) → ((k : ℕ) → k ≤ n → Opens roll k false) → opening roll n ≡ 0
   none_opens zero h = refl
   none_opens (suc n) h = cond-false _ _ _ (h (suc n) (omega arith)) ∙ none_opens n (λ k l. h k (omega arith))
 
-  last_opens : (n i : ℕ) → i ≤ n → Opens i true → ((k : ℕ) → i < k → k ≤ n → Opens k false) → opening roll n ≡ i
+  last_opens : (n i : ℕ) → i ≤ n → Opens roll i true → ((k : ℕ) → i < k → k ≤ n → Opens roll k false) → opening roll n ≡ i
   last_opens zero i h e f = omega arith
   last_opens (suc n) i h e f = go (eqb i (suc n)) refl (λ l. last_opens n i l e (λ k l m. f k l (omega arith)))
     where
@@ -26,9 +24,6 @@ module _ (roll : List RollEntry) where
       go false t below =
           let other = eqb-false i (suc n) t in
           cond-false _ _ _ (f (suc n) (omega (arith, other)) (omega arith)) ∙ below (omega (arith, other))
-
-abbrev pub LastOpening : List RollEntry → Option ℕ → Type 0
-LastOpening roll r = MatchOption r ((k : ℕ) → k < length roll → Opens roll k false) (λ i. (i < length roll) × Opens roll i true × ((k : ℕ) → i < k → k < length roll → Opens roll k false))
 
 pub found_opening : (roll : List RollEntry) (r : Option ℕ) → LastOpening roll r → unwrap_or r 0 ≡ innermost roll
 found_opening [] None h = refl

@@ -4,3 +4,5 @@ pub mod Standing
 pub mod Meeting
 pub mod Fronts
 pub mod Running
+pub mod Making
+pub mod Openings

@@ -12,6 +12,7 @@ mod parameters;
 mod roll;
 mod rules;
 mod running;
+mod scanning;
 mod texts;
 mod writing;
 
@@ -21,4 +22,5 @@ pub use parameters::Parameters;
 pub use roll::Roll;
 pub use rules::{end_of_text, follow};
 pub use running::{pass_plain, plain_run};
+pub use scanning::{CallMaker, scan_text};
 pub use texts::ScanTexts;

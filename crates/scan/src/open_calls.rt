@@ -1,8 +1,9 @@
 // The innermost call, as it is read off the roll.
-ghost use Rattle.std.specs.Prelude.{◌≡◌, ℕ, ◌<◌, ◌≤◌, false, true, length, MatchOption};
+ghost use Rattle.std.specs.Prelude.{◌≡◌, ◌<◌, ◌≤◌, length};
 ghost use Rattle.machine.specs.Texts.{not_empty};
 ghost use Rattle.machine.specs.World.{World};
-ghost use Rattle.machine.specs.Scan.{opens, is_active, entry_at, innermost as innermost_in, called_name, parameters as parameters_in};
+ghost use Rattle.machine.specs.Scan.{is_active, entry_at, innermost as innermost_in, called_name, parameters as parameters_in};
+ghost use Rattle.scan.specs.Openings.{LastOpening};
 ghost use Rattle.scan.specs.Standing.{state_in};
 
 use crate::fields::{behind, field};
@@ -13,7 +14,7 @@ use machine::{Begins, RollEntry};
 
 // The last entry that opens a call.
 fn last_opening(entries: &[RollEntry]) -> Option<usize>
-    ensures { MatchOption result ((k : ℕ) → k < length entries.now → opens (entry_at entries.now k).begins ≡ false) (λ i. (i < length entries.now) × (opens (entry_at entries.now i).begins ≡ true) × ((k : ℕ) → i < k → k < length entries.now → opens (entry_at entries.now k).begins ≡ false)) }
+    ensures { LastOpening entries.now result }
 {
     entries
         .iter()

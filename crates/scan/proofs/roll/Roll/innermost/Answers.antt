@@ -1,5 +1,6 @@
 use Rattle.std.proofs.Common.{◌∙◌, subst}
-use Rattle.scan.proofs.Rolls.{LastOpening, found_opening}
+use Rattle.scan.proofs.Rolls.{found_opening}
+use Rattle.scan.specs.Openings.{LastOpening}
 use Rattle.scan.proofs.roll.Roll.innermost.Goals as goal
 
 pub returns-clause-value : goal.returns-clause-value

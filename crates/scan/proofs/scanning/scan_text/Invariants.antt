@@ -1,0 +1,10 @@
+use Rattle.std.proofs.Common.{◌-◌}
+use Rattle.scan.proofs.Steps.{Under}
+use Rattle.scan.proofs.scanning.scan_text.Given as goal
+
+-- what is left of the scan is what is left of the whole
+abbrev pub invariant-loop-steps : goal.invariant-loop-steps
+invariant-loop-steps g l = Under g.C.Code.meaning (g.M.CallMaker.world l.initial.maker) (g.M.CallMaker.world l.maker) l.initial.texts l.texts l.initial.roll l.roll l.initial.meter l.meter l.steps
+
+abbrev pub decreases-loop-steps : goal.decreases-loop-steps
+decreases-loop-steps g l = 1000000 - l.steps
