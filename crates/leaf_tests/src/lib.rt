@@ -1,0 +1,25 @@
+// Tests of what the contracts of the lower crates cannot say: that calls succeed at the bounds, and that the definitions are
+// the ones wanted. Expected values come from the language's description, or from another program.
+
+#![tactic(auto)]
+
+#[cfg(test)]
+mod built_ins_tests;
+#[cfg(test)]
+mod dictionary_tests;
+#[cfg(test)]
+mod number_tests;
+#[cfg(test)]
+mod rule_tests;
+#[cfg(test)]
+mod scan_tests;
+mod scanning;
+mod spelling;
+mod stored;
+mod stored_classes;
+mod stored_strings;
+mod storing;
+
+pub use scanning::{put_before_right, put_behind_left, run, step, texts_are};
+pub use spelling::in_ebcdic;
+pub use stored::Stored;
