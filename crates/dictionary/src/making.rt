@@ -11,6 +11,7 @@ impl Dictionary {
     pub fn new(heap: Global, most_rows: usize) -> Result<Dictionary, AllocError>
         ensures meaning { IfOk result (λ d. (store : List ℕ) → dictionary_in d store ≡ new_dictionary) }
         ensures most_rows { IfOk result (λ d. d.most_rows ≡ most_rows) }
+        ensures unused { IfOk result (λ d. d.used ≡ 0) }
     {
         Ok(Dictionary {
             originals: [true; 46],
@@ -31,7 +32,8 @@ impl Dictionary {
 
     // The bytes in use.
     pub fn bytes(&self) -> usize
-        ensures { (store : List ℕ) → self.now.used ≤ length store → result ≡ bytes_in (dictionary_in self.now store) }
+        ensures bytes { (store : List ℕ) → self.now.used ≤ length store → result ≡ bytes_in (dictionary_in self.now store) }
+        ensures used { result ≡ self.now.used }
     {
         self.used
     }

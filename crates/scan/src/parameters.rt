@@ -6,6 +6,7 @@ use crate::fields::field;
 use machine::RollEntry;
 use std::marker::Model;
 
+#[derive(Drop)]
 pub struct Parameters<'a> {
     pub(crate) left: &'a [u8],
     // where each begins
