@@ -20,6 +20,6 @@ mod stored_classes;
 mod stored_strings;
 mod storing;
 
-pub use scanning::{put_before_right, put_behind_left, run, step, texts_are};
+pub use scanning::{parameter_is, put_before_right, put_behind_left, run, step, texts_are};
 pub use spelling::in_ebcdic;
 pub use stored::Stored;

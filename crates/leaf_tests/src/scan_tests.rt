@@ -1,7 +1,7 @@
 // The scan in an area that its source fills, rolls of 0 and of 256 entries, and values that fill the gap.
 ghost use Rattle.std.specs.Prelude.{◌≡◌};
 
-use crate::{put_before_right, put_behind_left, run, texts_are};
+use crate::{parameter_is, put_before_right, put_behind_left, run, texts_are};
 use code::Ascii;
 use machine::{Limits, RollEntry};
 use meter::Meter;
@@ -108,6 +108,9 @@ fn a_call_is_read_off_the_roll(rt: HostRuntime) -> Result<(), Fail> {
     assert_eq!(rt; roll.name(&texts), b"AD".as_slice());
     assert_eq!(rt; roll.start(), 3);
     assert!(rt; !roll.is_active());
+    assert!(rt; parameter_is(&roll, &texts, 0, b""));
+    assert!(rt; parameter_is(&roll, &texts, 1, b"23"));
+    assert!(rt; parameter_is(&roll, &texts, 2, b""));
     roll.close();
     assert_eq!(rt; roll.name(&texts), b"F".as_slice());
     assert_eq!(rt; roll.start(), 1);

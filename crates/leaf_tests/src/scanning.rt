@@ -54,6 +54,11 @@ pub fn run<C: Code>(
     Ok(STEPS)
 }
 
+// Does a parameter of the innermost call read so?
+pub fn parameter_is(roll: &Roll, texts: &ScanTexts<'_>, n: usize, text: &[u8]) -> bool {
+    roll.parameters(texts).get(n) == text
+}
+
 // Do the texts read so?
 pub fn texts_are(texts: &ScanTexts<'_>, left: &[u8], right: &[u8]) -> bool {
     texts.left() == left && texts.right() == right
