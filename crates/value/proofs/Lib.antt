@@ -1,0 +1,3 @@
+mod Caps
+mod Pieces
+mod Joined
