@@ -1,5 +1,5 @@
 -- Sums that stop at the largest usize.
-use Rattle.std.proofs.Common.{◌≡◌, ℕ, ◌+◌, ◌-◌, ◌^◌, ◌≤◌, List, [], ◌++◌, length, min, sym, ◌∙◌, ap, arith}
+use Rattle.std.proofs.Common.{◌≡◌, ℕ, ◌+◌, ◌-◌, ◌^◌, ◌<◌, ◌≤◌, List, [], ◌++◌, length, min, sym, ◌∙◌, ap, arith}
 use Rattle.std.proofs.lemmas.List.{length-append}
 use Rattle.value.specs.Texts.{capped}
 
@@ -31,3 +31,7 @@ min_same m n h = grind arith
 pub counted_all : {n : ℕ} {left whole : List ℕ} → Counted n left whole → left ≡ [] → n ≡ capped (length whole)
 counted_all {n} {left} {whole} so none =
     min_same (2 ^ 64 - 1) n so.bounded ∙ ap (λ t. capped (n + length t)) (sym none) ∙ so.together
+
+-- a length that a usize has is exact
+pub exact : (n k : ℕ) → capped n ≡ k → k < 2 ^ 64 - 1 → n ≡ k
+exact n k is below = grind arith

@@ -1,3 +1,3 @@
-mod Caps
+pub mod Caps
 mod Pieces
 mod Joined

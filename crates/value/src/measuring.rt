@@ -1,7 +1,7 @@
 // How long values are.
 ghost use Rattle.std.specs.Prelude.{◌≡◌, length};
-ghost use Rattle.value.specs.Texts.{value_text, capped};
-ghost use Rattle.value.specs.Standing.{Stands};
+ghost use Rattle.value.specs.Texts.{capped};
+ghost use Rattle.value.specs.Taking.{text_from, Stands};
 
 use crate::filling::filled_length;
 use crate::naming::names_length;
@@ -16,8 +16,8 @@ use selection::length_without_marks;
 impl Value {
     // Its length, or the largest usize where it is longer than that.
     pub fn len<C: Code, R: Reader>(self, sources: &Sources<'_, C, R>) -> usize
-        requires { Stands sources.now.dictionary.now self }
-        ensures { result ≡ capped (length (value_text C.Code.meaning sources.now.parameters.now sources.now.store.now (R.Reader.meaning sources.now.library.now) self)) }
+        requires { Stands sources.now self }
+        ensures { result ≡ capped (length (text_from sources.now self)) }
     {
         match self {
             Value::Nothing => 0,

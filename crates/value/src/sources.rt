@@ -7,6 +7,7 @@ use library::Reader;
 use scan::Parameters;
 use signs::Signs;
 
+#[derive(Drop)]
 pub struct Sources<'a, C: Code, R: Reader> {
     pub signs: &'a Signs<C>,
     pub parameters: &'a Parameters<'a>,

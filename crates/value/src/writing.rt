@@ -3,8 +3,7 @@ ghost use Rattle.std.specs.Prelude.{◌≡◌, length, map, reverse};
 ghost use Rattle.std.specs.Fmt.{signed_decimal};
 ghost use Rattle.machine.specs.Texts.{without_marks};
 ghost use Rattle.machine.specs.Numbers.{written};
-ghost use Rattle.value.specs.Texts.{value_text};
-ghost use Rattle.value.specs.Standing.{Stands};
+ghost use Rattle.value.specs.Taking.{text_from, Stands};
 
 use crate::filling::write_filled;
 use crate::naming::write_names;
@@ -52,9 +51,9 @@ fn write_without_marks<C: Code>(signs: &Signs<C>, text: &[u8], out: &mut [u8])
 impl Value {
     // Its text, which is as long as `out`.
     pub fn write<C: Code, R: Reader>(self, sources: &Sources<'_, C, R>, out: &mut [u8])
-        requires stands { Stands sources.now.dictionary.now self }
-        requires fits { length out.old ≡ length (value_text C.Code.meaning sources.now.parameters.now sources.now.store.now (R.Reader.meaning sources.now.library.now) self) }
-        ensures { out.new ≡ value_text C.Code.meaning sources.now.parameters.now sources.now.store.now (R.Reader.meaning sources.now.library.now) self }
+        requires stands { Stands sources.now self }
+        requires fits { length out.old ≡ length (text_from sources.now self) }
+        ensures { out.new ≡ text_from sources.now self }
     {
         match self {
             Value::Nothing => {}

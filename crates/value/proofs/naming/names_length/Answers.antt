@@ -1,4 +1,5 @@
 use Rattle.std.proofs.Common.{◌+◌, [], length, ap, ◌∙◌, get_or, arith}
+use Rattle.machine.specs.Libraries.{with_commas}
 use Rattle.value.specs.Texts.{names_of, capped, joined_name}
 use Rattle.value.proofs.Caps.{counted_more, counted_all}
 use Rattle.value.proofs.Joined.{names_left, names_cut, no_names_left}
@@ -8,7 +9,7 @@ pub loop-string-preserved : goal.loop-string-preserved
 loop-string-preserved g c comma =
     let names = names_of (g.R.Reader.meaning c.args.library.now) c.args.program in
     let i = c.loop-string.string in
-    counted_more (joined_name comma i (get_or names i [])) (names_left comma names (i + 1)) _
+    counted_more {left = names_left comma names i} {whole = with_commas comma names} (joined_name comma i (get_or names i [])) (names_left comma names (i + 1)) _
     (c.loop-string.invariant comma)
     (names_cut comma names i (omega (arith, c.loop-string-test.true, c.count-string-end.ensures)))
     (c.saturating_add-len.ensures
