@@ -1,16 +1,13 @@
 -- A text written piece by piece.
-use Rattle.std.proofs.Common.{◌≡◌, ℕ, ◌+◌, ◌<◌, ◌≤◌, List, [], ◌++◌, length, take, drop, get_or, sym, ◌∙◌, ap, arith, refl}
+use Rattle.std.proofs.Common.{◌≡◌, ℕ, ◌+◌, ◌<◌, ◌≤◌, List, ◌++◌, length, take, drop, get_or, sym, ◌∙◌, ap, arith}
 use Rattle.std.specs.List.{flat_map}
-use Rattle.std.proofs.lemmas.List.{append_assoc, append-nil, length-append, length-take-le, take_all, drop_more}
+use Rattle.std.proofs.lemmas.List.{append_assoc, length-append, length-take-le, drop_more}
 
 -- what is written and what is left are the whole
 pub record Written (out rest whole : List ℕ) (at : ℕ) : Type 0 where
   pub within : at ≤ length out
   pub size : length out ≡ length whole
   pub so_far : take at out ++ rest ≡ whole
-
-pub begun : (out whole : List ℕ) → length out ≡ length whole → Written out whole whole 0
-begun out whole size = record { within = omega arith; size = size; so_far = refl }
 
 -- what is left in bytes
 abbrev bytes_left : {out rest whole : List ℕ} {at : ℕ} → Written out rest whole at → at + length rest ≡ length out
@@ -34,11 +31,6 @@ more {out} {rest} {whole} {at} piece further after end w cut ends written same =
       size = same ∙ w.size;
       so_far = ap (λ t. t ++ further) written ∙ append_assoc (take at out) piece further ∙ ap (λ t. take at out ++ t) (sym cut) ∙ w.so_far;
     }
-
-pub done : {out whole : List ℕ} {at : ℕ} → Written out [] whole at → out ≡ whole
-done {out} {whole} {at} w =
-    let left = bytes_left w in
-    sym (take_all at out (omega (arith, left))) ∙ sym (append-nil (take at out)) ∙ w.so_far
 
 -- the pieces of a list, one on
 pub flat_map_cut : {X : Type 0} (f : X → List ℕ) (xs : List X) (i : ℕ) (d : X) → i < length xs → flat_map f (drop i xs) ≡ f (get_or xs i d) ++ flat_map f (drop (i + 1) xs)
