@@ -1,0 +1,3 @@
+pub mod Caps
+mod Pieces
+mod Joined
