@@ -20,6 +20,6 @@ mod stored_classes;
 mod stored_strings;
 mod storing;
 
-pub use scanning::{parameter_is, put_before_right, put_behind_left, run, step, texts_are};
-pub use spelling::in_ebcdic;
-pub use stored::Stored;
+pub(crate) use scanning::{parameter_is, put_before_right, put_behind_left, run, step, texts_are};
+pub(crate) use spelling::in_ebcdic;
+pub(crate) use stored::Stored;

@@ -15,7 +15,7 @@ use signs::Signs;
 const STEPS: usize = 2000;
 
 // A step, or none at the end of the text and at a call that is to be made.
-pub fn step<C: Code>(
+pub(crate) fn step<C: Code>(
     signs: &Signs<C>,
     texts: &mut ScanTexts<'_>,
     roll: &mut Roll,
@@ -36,7 +36,7 @@ pub fn step<C: Code>(
 }
 
 // All steps up to the end of the text or to a call that is to be made. The answer says how many.
-pub fn run<C: Code>(
+pub(crate) fn run<C: Code>(
     signs: &Signs<C>,
     texts: &mut ScanTexts<'_>,
     roll: &mut Roll,
@@ -55,17 +55,17 @@ pub fn run<C: Code>(
 }
 
 // Does a parameter of the innermost call read so?
-pub fn parameter_is(roll: &Roll, texts: &ScanTexts<'_>, n: usize, text: &[u8]) -> bool {
+pub(crate) fn parameter_is(roll: &Roll, texts: &ScanTexts<'_>, n: usize, text: &[u8]) -> bool {
     roll.parameters(texts).get(n) == text
 }
 
 // Do the texts read so?
-pub fn texts_are(texts: &ScanTexts<'_>, left: &[u8], right: &[u8]) -> bool {
+pub(crate) fn texts_are(texts: &ScanTexts<'_>, left: &[u8], right: &[u8]) -> bool {
     texts.left() == left && texts.right() == right
 }
 
 // A value goes behind the left text in an area of that size, if there is room.
-pub fn put_behind_left(texts: &mut ScanTexts<'_>, size: usize, value: &[u8]) -> bool
+pub(crate) fn put_behind_left(texts: &mut ScanTexts<'_>, size: usize, value: &[u8]) -> bool
     requires { size ≡ length texts.old.area.now }
     ensures value { MatchBool result (Become texts.old texts.new (left_of texts.old ++ value.now) (right_of texts.old)) (texts.new ≡ texts.old) }
     ensures size { size ≡ length texts.new.area.now }
@@ -79,7 +79,7 @@ pub fn put_behind_left(texts: &mut ScanTexts<'_>, size: usize, value: &[u8]) -> 
 }
 
 // A value goes before the right text, likewise.
-pub fn put_before_right(texts: &mut ScanTexts<'_>, size: usize, value: &[u8]) -> bool
+pub(crate) fn put_before_right(texts: &mut ScanTexts<'_>, size: usize, value: &[u8]) -> bool
     requires { size ≡ length texts.old.area.now }
     ensures value { MatchBool result (Become texts.old texts.new (left_of texts.old) (value.now ++ right_of texts.old)) (texts.new ≡ texts.old) }
     ensures size { size ≡ length texts.new.area.now }

@@ -6,7 +6,7 @@ use dictionary::Dictionary;
 use signs::Signs;
 
 #[derive(Drop)]
-pub struct Stored<C: Code> {
+pub(crate) struct Stored<C: Code> {
     pub(crate) signs: Signs<C>,
     pub(crate) dictionary: Dictionary,
     pub(crate) store: Vec<u8>,

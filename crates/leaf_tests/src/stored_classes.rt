@@ -4,12 +4,12 @@ use code::Code;
 
 impl<C: Code + Drop> Stored<C> {
     // Whether a byte is in the class of that name.
-    pub fn member(&self, name: &[u8], byte: u8) -> Option<bool> {
+    pub(crate) fn member(&self, name: &[u8], byte: u8) -> Option<bool> {
         let members = self.dictionary.class(self.store.as_slice(), name)?;
         Some(members[usize::from(byte)])
     }
 
-    pub fn define_class(&mut self, name: &[u8], members: &[bool; 256]) -> bool {
+    pub(crate) fn define_class(&mut self, name: &[u8], members: &[bool; 256]) -> bool {
         let needs = self
             .dictionary
             .after_define_class(self.store.as_slice(), name);
@@ -21,7 +21,7 @@ impl<C: Code + Drop> Stored<C> {
         true
     }
 
-    pub fn erase_class(&mut self, name: &[u8]) {
+    pub(crate) fn erase_class(&mut self, name: &[u8]) {
         self.dictionary.erase_class(self.store.as_mut_slice(), name);
     }
 }

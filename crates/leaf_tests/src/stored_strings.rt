@@ -10,7 +10,7 @@ use machine::BuiltIn;
 
 impl<C: Code + Drop> Stored<C> {
     // Where the string of that name lies.
-    pub fn string(&self, name: &[u8]) -> Option<StringPlace>
+    pub(crate) fn string(&self, name: &[u8]) -> Option<StringPlace>
         ensures place { IfSome result (λ s. RowAt self.now.dictionary (place_of s)) }
     {
         match self
@@ -22,7 +22,7 @@ impl<C: Code + Drop> Stored<C> {
         }
     }
 
-    pub fn built_in(&self, name: &[u8]) -> Option<BuiltIn> {
+    pub(crate) fn built_in(&self, name: &[u8]) -> Option<BuiltIn> {
         match self
             .dictionary
             .look_up(&self.signs, self.store.as_slice(), name)?
@@ -32,25 +32,25 @@ impl<C: Code + Drop> Stored<C> {
         }
     }
 
-    pub fn body(&self, name: &[u8]) -> Option<&[u8]> {
+    pub(crate) fn body(&self, name: &[u8]) -> Option<&[u8]> {
         let string = self.string(name)?;
         Some(self.dictionary.body(self.store.as_slice(), string))
     }
 
-    pub fn rest(&self, name: &[u8]) -> Option<&[u8]> {
+    pub(crate) fn rest(&self, name: &[u8]) -> Option<&[u8]> {
         let string = self.string(name)?;
         Some(self.dictionary.rest(self.store.as_slice(), string))
     }
 
-    pub fn body_is(&self, name: &[u8], text: &[u8]) -> bool {
+    pub(crate) fn body_is(&self, name: &[u8], text: &[u8]) -> bool {
         self.body(name).is_some_and(|body| body == text)
     }
 
-    pub fn rest_is(&self, name: &[u8], text: &[u8]) -> bool {
+    pub(crate) fn rest_is(&self, name: &[u8], text: &[u8]) -> bool {
         self.rest(name).is_some_and(|rest| rest == text)
     }
 
-    pub fn append(&mut self, name: &[u8], more: &[u8]) -> bool {
+    pub(crate) fn append(&mut self, name: &[u8], more: &[u8]) -> bool {
         let Some(string) = self.string(name) else {
             return false;
         };
@@ -62,7 +62,7 @@ impl<C: Code + Drop> Stored<C> {
         true
     }
 
-    pub fn copy(&mut self, name: &[u8], source: &[u8]) -> bool {
+    pub(crate) fn copy(&mut self, name: &[u8], source: &[u8]) -> bool {
         let Some(string) = self.string(source) else {
             return false;
         };
@@ -79,13 +79,13 @@ impl<C: Code + Drop> Stored<C> {
     }
 
     // How many matches there were.
-    pub fn mark(&mut self, name: &[u8], sought: &[u8], mark: u8) -> Option<usize> {
+    pub(crate) fn mark(&mut self, name: &[u8], sought: &[u8], mark: u8) -> Option<usize> {
         let mut string = self.string(name)?;
         let store = self.store.as_mut_slice();
         Some(self.dictionary.mark(store, &mut string, sought, mark))
     }
 
-    pub fn set_pointer(&mut self, name: &[u8], pointer: usize) -> bool {
+    pub(crate) fn set_pointer(&mut self, name: &[u8], pointer: usize) -> bool {
         match self.string(name) {
             Some(string) if pointer <= string.extent.length => {
                 self.dictionary.set_pointer(string, pointer);

@@ -16,7 +16,12 @@ use std::alloc::{AllocError, Global};
 const LONGEST: usize = 65_536;
 
 impl<C: Code + Drop> Stored<C> {
-    pub fn new(heap: Global, code: C, names: usize, bytes: usize) -> Result<Stored<C>, AllocError> {
+    pub(crate) fn new(
+        heap: Global,
+        code: C,
+        names: usize,
+        bytes: usize,
+    ) -> Result<Stored<C>, AllocError> {
         Ok(Stored {
             signs: read_signs(code),
             dictionary: Dictionary::new(heap, names)?,
@@ -25,16 +30,16 @@ impl<C: Code + Drop> Stored<C> {
         })
     }
 
-    pub fn names(&self) -> usize {
+    pub(crate) fn names(&self) -> usize {
         self.dictionary.names()
     }
 
-    pub fn bytes(&self) -> usize {
+    pub(crate) fn bytes(&self) -> usize {
         self.dictionary.bytes()
     }
 
     // What there would be if the name meant something with that body.
-    pub fn needs(&self, name: &[u8], body: usize) -> Option<Needs>
+    pub(crate) fn needs(&self, name: &[u8], body: usize) -> Option<Needs>
         ensures { IfSome result (λ needs. (code : AnyCode) (m : Meaning) → length (body_of m) ≡ body → Takes needs (define code name.now m (dictionary_in self.now.dictionary (vec_items self.now.store)))) }
     {
         if name.len() > LONGEST || body > LONGEST {
@@ -53,7 +58,7 @@ impl<C: Code + Drop> Stored<C> {
     }
 
     // The name becomes a string, if it fits.
-    pub fn define(&mut self, name: &[u8], body: &[u8]) -> bool
+    pub(crate) fn define(&mut self, name: &[u8], body: &[u8]) -> bool
         ensures { MatchBool result (dictionary_in self.new.dictionary (vec_items self.new.store) ≡ define C.Code.meaning name.now (string (new_string body.now)) (dictionary_in self.old.dictionary (vec_items self.old.store))) (self.new ≡ self.old) }
     {
         match self.needs(name, body.len()) {
@@ -68,7 +73,7 @@ impl<C: Code + Drop> Stored<C> {
     }
 
     // The name becomes a copied built-in, if it fits.
-    pub fn copy_built_in(&mut self, name: &[u8], function: BuiltIn) -> bool
+    pub(crate) fn copy_built_in(&mut self, name: &[u8], function: BuiltIn) -> bool
         ensures { MatchBool result (dictionary_in self.new.dictionary (vec_items self.new.store) ≡ define C.Code.meaning name.now (built_in function) (dictionary_in self.old.dictionary (vec_items self.old.store))) (self.new ≡ self.old) }
     {
         match self.needs(name, 0) {
@@ -82,7 +87,7 @@ impl<C: Code + Drop> Stored<C> {
         }
     }
 
-    pub fn erase(&mut self, name: &[u8])
+    pub(crate) fn erase(&mut self, name: &[u8])
         ensures { dictionary_in self.new.dictionary (vec_items self.new.store) ≡ erase C.Code.meaning name.now (dictionary_in self.old.dictionary (vec_items self.old.store)) }
     {
         let store = self.store.as_mut_slice();

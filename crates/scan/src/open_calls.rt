@@ -1,5 +1,5 @@
 // The innermost call, as it is read off the roll.
-ghost use Rattle.std.specs.Prelude.{◌≡◌, ◌<◌, ◌≤◌, length};
+ghost use Rattle.std.specs.Prelude.{◌≡◌, ◌<◌, ◌≤◌, ℕ, List, length};
 ghost use Rattle.machine.specs.Texts.{not_empty};
 ghost use Rattle.machine.specs.World.{World};
 ghost use Rattle.machine.specs.Scan.{is_active, entry_at, innermost as innermost_in, called_name, parameters as parameters_in};
@@ -70,13 +70,20 @@ impl Roll {
         field(&self.entries, texts.left(), self.innermost())
     }
 
+    // The parameters of the innermost call, in a text that is the left text.
+    pub fn parameters_in<'a>(&'a self, left: &'a [u8]) -> Parameters<'a>
+        ensures { (right : List ℕ) (w : World) → result ≡ parameters_in (record { left = left.now; right = right; roll = self.now.entries.items; world = w }) }
+    {
+        Parameters {
+            left,
+            entries: behind(&self.entries, self.innermost()),
+        }
+    }
+
     // The parameters of the innermost call.
     pub fn parameters<'a>(&'a self, texts: &'a ScanTexts<'_>) -> Parameters<'a>
         ensures { (w : World) → result ≡ parameters_in (state_in texts.now self.now w) }
     {
-        Parameters {
-            left: texts.left(),
-            entries: behind(&self.entries, self.innermost()),
-        }
+        self.parameters_in(texts.left())
     }
 }

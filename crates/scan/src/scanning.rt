@@ -1,5 +1,6 @@
 // The scan of a whole text.
 ghost use Rattle.std.specs.Prelude.{◌≤◌, length};
+ghost use Rattle.machine.specs.declared.amounts.Amounts.{Amounts};
 ghost use Rattle.machine.specs.World.{World};
 ghost use Rattle.machine.specs.Scan.{make_call as make_call_of, step as step_of, scanning};
 ghost use Rattle.scan.specs.Texts.{right_of};
@@ -20,6 +21,8 @@ use signs::Signs;
 pub trait CallMaker<C: Code> {
     // the world in which calls are made
     ghost world: { Self → World };
+    // it has the memory that calls may need within these bounds
+    ghost Ready: { Self → Amounts → Type 0 };
 
     // The innermost call is made; its `>` is dropped already.
     fn make_call(
@@ -28,8 +31,10 @@ pub trait CallMaker<C: Code> {
         roll: &mut Roll,
         meter: &mut Meter,
     ) -> Result<(), Refusal>
-        requires { Fits texts.old roll.old meter.old }
-        ensures { GoesIn (make_call_of C.Code.meaning) (world self.old) (world self.new) texts.old texts.new roll.old roll.new meter.old meter.new result };
+        requires fits { Fits texts.old roll.old meter.old }
+        requires ready { Ready self.old meter.old.bounds }
+        ensures goes { GoesIn (make_call_of C.Code.meaning) (world self.old) (world self.new) texts.old texts.new roll.old roll.new meter.old meter.new result }
+        ensures ready { Ready self.new meter.old.bounds };
 }
 
 // A step, where the right text is not empty.
@@ -42,7 +47,9 @@ fn step<C: Code, M: CallMaker<C>>(
 ) -> Result<(), Refusal>
     requires some { 1 ≤ length (right_of texts.old) }
     requires fits { Fits texts.old roll.old meter.old }
-    ensures { GoesIn (step_of C.Code.meaning) (M.world maker.old) (M.world maker.new) texts.old texts.new roll.old roll.new meter.old meter.new result }
+    requires ready { M.Ready maker.old meter.old.bounds }
+    ensures goes { GoesIn (step_of C.Code.meaning) (M.world maker.old) (M.world maker.new) texts.old texts.new roll.old roll.new meter.old meter.new result }
+    ensures ready { M.Ready maker.new meter.old.bounds }
 {
     match rule_at_front(signs, roll.is_inside(), texts.right()) {
         Rule::Close => {
@@ -62,8 +69,10 @@ pub fn scan_text<C: Code, M: CallMaker<C>>(
     meter: &mut Meter,
 ) -> Result<(), Refusal>
     requires fits { Fits texts.old roll.old meter.old }
+    requires ready { M.Ready maker.old meter.old.bounds }
     requires allowed { meter.old.bounds.steps ≤ 1000000 }
-    ensures { GoesIn (scanning C.Code.meaning 1000000 0) (M.world maker.old) (M.world maker.new) texts.old texts.new roll.old roll.new meter.old meter.new result }
+    ensures goes { GoesIn (scanning C.Code.meaning 1000000 0) (M.world maker.old) (M.world maker.new) texts.old texts.new roll.old roll.new meter.old meter.new result }
+    ensures ready { M.Ready maker.new meter.old.bounds }
 {
     let mut steps = 0usize;
     loop {

@@ -34,7 +34,7 @@ impl<'a> ScanTexts<'a> {
     pub fn write_behind_left<F: FnOnce(&[u8], &mut [u8])>(&mut self, n: usize, write: F)
         requires room { HasRoom n self.old }
         requires callable { MayWrite F.FnOnce write (left_of self.old) n }
-        ensures { (value : List ℕ) × Writes F.FnOnce write (left_of self.old) n value × Become self.old self.new (left_of self.old ++ value) (right_of self.old) }
+        ensures { (value : List ℕ) × Writes F.FnOnce write (left_of self.old) n value × (length value ≡ n) × Become self.old self.new (left_of self.old ++ value) (right_of self.old) }
     {
         let left = self.left;
         write_part(self.area, left, left, n, write);
@@ -45,7 +45,7 @@ impl<'a> ScanTexts<'a> {
     pub fn write_before_right<F: FnOnce(&[u8], &mut [u8])>(&mut self, n: usize, write: F)
         requires room { HasRoom n self.old }
         requires callable { MayWrite F.FnOnce write (left_of self.old) n }
-        ensures { (value : List ℕ) × Writes F.FnOnce write (left_of self.old) n value × Become self.old self.new (left_of self.old) (value ++ right_of self.old) }
+        ensures { (value : List ℕ) × Writes F.FnOnce write (left_of self.old) n value × (length value ≡ n) × Become self.old self.new (left_of self.old) (value ++ right_of self.old) }
     {
         let (left, right) = (self.left, self.right - n);
         write_part(self.area, left, right, n, write);

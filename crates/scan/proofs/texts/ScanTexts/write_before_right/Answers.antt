@@ -15,6 +15,7 @@ returns g c =
     let behind : s.left ≤ start = omega (arith, room) in (
       wrote.0,
       wrote.1,
+      wrote.2,
       record {
         left_is = ap (take s.left) wrote.3 ∙ front_of_written d wrote.0 start n fits wrote.2 s.left behind;
         right_is = ap (drop start) wrote.3 ∙ from_written d wrote.0 start n fits wrote.2 ∙ ap (λ m. wrote.0 ++ drop m d) end;

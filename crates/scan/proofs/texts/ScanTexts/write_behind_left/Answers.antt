@@ -12,6 +12,7 @@ returns g c =
     let fits : s.left + n ≤ length d = omega (arith, room, s.within) in (
       wrote.0,
       wrote.1,
+      wrote.2,
       record {
         left_is = ap (take (s.left + n)) wrote.3 ∙ up_to_written d wrote.0 s.left n fits wrote.2;
         right_is = ap (drop s.right) wrote.3 ∙ rest_of_written d wrote.0 s.left n fits wrote.2 s.right room;
