@@ -2,6 +2,7 @@
 
 #![tactic(auto)]
 
+mod asking;
 mod effect;
 mod finding;
 mod plan;
