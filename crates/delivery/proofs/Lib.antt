@@ -1,0 +1,3 @@
+mod Worlds
+mod Needs
+mod Fronts

@@ -1,0 +1,69 @@
+-- How the value of a call goes into the texts of the scan, and what it is taken from. Assumes nothing.
+use Rattle.std.specs.Prelude.{◌≡◌, ℕ, ◌+◌, ◌-◌, Bool, cond, List, ◌++◌, map, length, ⊤}
+use Rattle.std.specs.List.{range_with_len}
+use Rattle.library.specs.Meaning.{Library}
+use Rattle.machine.specs.declared.roll.RollEntry.{RollEntry}
+use Rattle.machine.specs.Texts.{Text, Code}
+use Rattle.machine.specs.World as machine
+use Rattle.machine.specs.Scan.{State, is_active, entry_at, innermost, field, parameters}
+use Rattle.dictionary.specs.declared.dictionary.Dictionary.{Dictionary}
+use Rattle.dictionary.specs.Finding.{RowAt}
+use Rattle.dictionary.specs.Strings.{place_of}
+use Rattle.scan.specs.declared.texts.ScanTexts.{ScanTexts}
+use Rattle.scan.specs.Texts.{left_of, right_of}
+use Rattle.value.specs.declared.value.Value.{Value}
+use Rattle.value.specs.declared.value.Value.TheVariants.{Nothing, Parameter, Front, Behind, Reversed, Lowered, Number, Passed, Filled, Names}
+use Rattle.value.specs.Texts.{value_text}
+use Rattle.delivery.specs.declared.delivery.Placement.{Placement}
+use Rattle.delivery.specs.declared.delivery.Placement.TheVariants.{Active, Passive, Break}
+use Rattle.delivery.specs.declared.delivery.Delivery.{Delivery}
+
+-- the string of a value stands in a dictionary
+abbrev pub StandsIn : Dictionary → Value → Type 0
+StandsIn d (Passed s len) = RowAt d (place_of s)
+StandsIn d (Filled s created) = RowAt d (place_of s)
+StandsIn d other = ⊤
+
+-- the parameters of the innermost call, where its fields stand in a left text
+abbrev pub parameters_in : List RollEntry → Text → List Text
+parameters_in roll left = map (field roll left) (range_with_len (innermost roll + 1) (length roll - (innermost roll + 1)))
+
+-- the text of a value of that call, in a code, the bytes of a store and a library
+abbrev pub text_in : Code → List RollEntry → Text → List ℕ → Library → Value → Text
+text_in code roll left store library v = value_text code (parameters_in roll left) store library v
+
+-- the text of a value of the innermost call of a state
+abbrev pub value_in : Code → State → List ℕ → Library → Value → Text
+value_in code s store library v = value_text code (parameters s) store library v
+
+-- the bytes that the scan has to hold with a value
+abbrev pub need_of : Text → State → ℕ
+need_of value s = length s.left + length s.right + length value
+
+-- where the value of the innermost call goes
+abbrev pub placement_of : Bool → List RollEntry → Placement
+placement_of breaks roll = cond breaks Break (cond (is_active (entry_at roll (innermost roll)).begins) Active Passive)
+
+abbrev pub delivery_of : Bool → State → Delivery
+delivery_of breaks s = record { placement = placement_of breaks s.roll; left = length s.left }
+
+-- the machine's value of that text
+abbrev pub value_of : Bool → Text → machine.Value
+value_of breaks t = cond breaks (machine.break t) (machine.text t)
+
+-- the two texts with a value, while the text of the call is still there
+
+abbrev pub left_with : Placement → Text → Text → Text
+left_with Active value left = left
+left_with Passive value left = left ++ value
+left_with Break value left = left
+
+abbrev pub right_with : Placement → Text → Text → Text
+right_with Active value right = value ++ right
+right_with Passive value right = right
+right_with Break value right = value
+
+-- a value was written into the texts of a state
+pub record Written (p : Placement) (value : Text) (s : State) (t : ScanTexts) : Type 0 where
+  pub left_is : left_of t ≡ left_with p value s.left
+  pub right_is : right_of t ≡ right_with p value s.right

@@ -1,0 +1,101 @@
+// A value is taken from its sources.
+ghost use Rattle.std.specs.Prelude.{◌≡◌, ◌≤◌, length};
+ghost use Rattle.machine.specs.World.{World};
+ghost use Rattle.scan.specs.Texts.{left_of, SameArea, HasRoom};
+ghost use Rattle.scan.specs.Standing.{state_in};
+ghost use Rattle.value.specs.Texts.{capped};
+ghost use Rattle.delivery.specs.Deliveries.{StandsIn, text_in, value_in, Written};
+
+use crate::delivery::Placement;
+use crate::environment::Environment;
+use code::Code;
+use dictionary::Dictionary;
+use library::Reader;
+use scan::{Roll, ScanTexts};
+use signs::Signs;
+use value::{Sources, Value};
+
+// A value is written, where the parameters of the call stand in that left text.
+fn write_from<C: Code, R: Reader>(
+    signs: &Signs<C>,
+    roll: &Roll,
+    dictionary: &Dictionary,
+    store: &[u8],
+    library: &R,
+    value: Value,
+    left: &[u8],
+    part: &mut [u8],
+)
+    requires whole { dictionary.now.used ≤ length store.now }
+    requires stands { StandsIn dictionary.now value }
+    requires fits { length part.old ≡ length (text_in C.Code.meaning roll.now.entries.items left.now store.now (R.Reader.meaning library.now) value) }
+    ensures { part.new ≡ text_in C.Code.meaning roll.now.entries.items left.now store.now (R.Reader.meaning library.now) value }
+{
+    let parameters = roll.parameters_in(left);
+    let sources = Sources {
+        signs,
+        parameters: &parameters,
+        dictionary,
+        store,
+        library,
+    };
+    value.write(&sources, part);
+}
+
+impl<'a, R: Reader> Environment<'a, R> {
+    // How long a value of the innermost call is, or the largest usize where it is longer than that.
+    pub(crate) fn value_length<C: Code>(
+        &self,
+        signs: &Signs<C>,
+        value: Value,
+        texts: &ScanTexts<'_>,
+        roll: &Roll,
+    ) -> usize
+        requires { StandsIn self.now.dictionary.now value }
+        ensures { result ≡ capped (length (text_in C.Code.meaning roll.now.entries.items (left_of texts.now) self.now.store.now (R.Reader.meaning self.now.library.now) value)) }
+    {
+        let parameters = roll.parameters(texts);
+        let sources = Sources {
+            signs,
+            parameters: &parameters,
+            dictionary: self.dictionary,
+            store: self.store,
+            library: self.library,
+        };
+        value.len(&sources)
+    }
+}
+
+impl Placement {
+    // A value of the innermost call, of n bytes, is written into its place.
+    pub(crate) fn write<C: Code, R: Reader>(
+        self,
+        signs: &Signs<C>,
+        environment: &Environment<'_, R>,
+        value: Value,
+        n: usize,
+        texts: &mut ScanTexts<'_>,
+        roll: &Roll,
+    )
+        requires stands { StandsIn environment.now.dictionary.now value }
+        requires room { HasRoom n texts.old }
+        requires long { n ≡ length (text_in C.Code.meaning roll.now.entries.items (left_of texts.old) environment.now.store.now (R.Reader.meaning environment.now.library.now) value) }
+        ensures written { (w : World) → Written self (value_in C.Code.meaning (state_in texts.old roll.now w) environment.now.store.now (R.Reader.meaning environment.now.library.now) value) (state_in texts.old roll.now w) texts.new }
+        ensures same_area { SameArea texts.old texts.new }
+    {
+        let dictionary = environment.dictionary;
+        let store = environment.store;
+        let library = environment.library;
+        let write = |left: &[u8], part: &mut [u8]| {
+            write_from(signs, roll, dictionary, store, library, value, left, part)
+        };
+        match self {
+            Placement::Active => texts.write_before_right(n, write),
+            Placement::Passive => texts.write_behind_left(n, write),
+            Placement::Break => {
+                texts.drop_front(texts.right().len());
+                texts.write_before_right(n, write);
+            }
+        }
+    }
+}
