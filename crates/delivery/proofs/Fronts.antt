@@ -1,5 +1,5 @@
 -- The left text before a value was written. Assumes nothing.
-use Rattle.std.proofs.Common.{◌≡◌, ◌≤◌, ℕ, ◌++◌, length, min, take, sym, arith}
+use Rattle.std.proofs.Common.{◌≡◌, ◌++◌, length, min, take, sym, arith}
 use Rattle.std.proofs.lemmas.List.{take_all, take_at, length-append}
 use Rattle.machine.specs.Texts.{Text}
 use Rattle.delivery.specs.declared.delivery.Placement.{Placement}

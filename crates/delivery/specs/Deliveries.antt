@@ -10,9 +10,10 @@ use Rattle.dictionary.specs.declared.dictionary.Dictionary.{Dictionary}
 use Rattle.dictionary.specs.Finding.{RowAt}
 use Rattle.dictionary.specs.Strings.{place_of}
 use Rattle.scan.specs.declared.texts.ScanTexts.{ScanTexts}
+use Rattle.scan.specs.declared.roll.Roll.{Roll}
 use Rattle.scan.specs.Texts.{left_of, right_of}
 use Rattle.value.specs.declared.value.Value.{Value}
-use Rattle.value.specs.declared.value.Value.TheVariants.{Nothing, Parameter, Front, Behind, Reversed, Lowered, Number, Passed, Filled, Names}
+use Rattle.value.specs.declared.value.Value.TheVariants.{Passed, Filled}
 use Rattle.value.specs.Texts.{value_text}
 use Rattle.delivery.specs.declared.delivery.Placement.{Placement}
 use Rattle.delivery.specs.declared.delivery.Placement.TheVariants.{Active, Passive, Break}
@@ -63,7 +64,9 @@ right_with Active value right = value ++ right
 right_with Passive value right = right
 right_with Break value right = value
 
--- a value was written into the texts of a state
-pub record Written (p : Placement) (value : Text) (s : State) (t : ScanTexts) : Type 0 where
-  pub left_is : left_of t ≡ left_with p value s.left
-  pub right_is : right_of t ≡ right_with p value s.right
+-- A value was written, by the delivery of a call in a state: the text of the call and its entries are still there.
+pub record Written (d : Delivery) (breaks : Bool) (value : Text) (s : State) (t : ScanTexts) (q : Roll) : Type 0 where
+  pub of_call : d ≡ delivery_of breaks s
+  pub left_is : left_of t ≡ left_with d.placement value s.left
+  pub right_is : right_of t ≡ right_with d.placement value s.right
+  pub same_roll : q.entries.items ≡ s.roll

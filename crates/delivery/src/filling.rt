@@ -4,9 +4,9 @@ ghost use Rattle.machine.specs.World.{World};
 ghost use Rattle.scan.specs.Texts.{left_of, SameArea, HasRoom};
 ghost use Rattle.scan.specs.Standing.{state_in};
 ghost use Rattle.value.specs.Texts.{capped};
-ghost use Rattle.delivery.specs.Deliveries.{StandsIn, text_in, value_in, Written};
+ghost use Rattle.delivery.specs.Deliveries.{StandsIn, text_in, value_in, delivery_of, Written};
 
-use crate::delivery::Placement;
+use crate::delivery::{Delivery, Placement};
 use crate::environment::Environment;
 use code::Code;
 use dictionary::Dictionary;
@@ -66,9 +66,9 @@ impl<'a, R: Reader> Environment<'a, R> {
     }
 }
 
-impl Placement {
-    // A value of the innermost call, of n bytes, is written into its place.
-    pub(crate) fn write<C: Code, R: Reader>(
+impl Delivery {
+    // A value of n bytes is written into its place.
+    pub(crate) fn write_in_place<C: Code, R: Reader>(
         self,
         signs: &Signs<C>,
         environment: &Environment<'_, R>,
@@ -80,7 +80,7 @@ impl Placement {
         requires stands { StandsIn environment.now.dictionary.now value }
         requires room { HasRoom n texts.old }
         requires long { n ≡ length (text_in C.Code.meaning roll.now.entries.items (left_of texts.old) environment.now.store.now (R.Reader.meaning environment.now.library.now) value) }
-        ensures written { (w : World) → Written self (value_in C.Code.meaning (state_in texts.old roll.now w) environment.now.store.now (R.Reader.meaning environment.now.library.now) value) (state_in texts.old roll.now w) texts.new }
+        ensures written { (breaks : _) (w : World) → self ≡ delivery_of breaks (state_in texts.old roll.now w) → Written self breaks (value_in C.Code.meaning (state_in texts.old roll.now w) environment.now.store.now (R.Reader.meaning environment.now.library.now) value) (state_in texts.old roll.now w) texts.new roll.now }
         ensures same_area { SameArea texts.old texts.new }
     {
         let dictionary = environment.dictionary;
@@ -89,7 +89,7 @@ impl Placement {
         let write = |left: &[u8], part: &mut [u8]| {
             write_from(signs, roll, dictionary, store, library, value, left, part)
         };
-        match self {
+        match self.placement {
             Placement::Active => texts.write_before_right(n, write),
             Placement::Passive => texts.write_behind_left(n, write),
             Placement::Break => {

@@ -5,7 +5,7 @@ ghost use Rattle.meter.specs.Metered.{Asks};
 ghost use Rattle.scan.specs.Texts.{SameArea};
 ghost use Rattle.scan.specs.Making.{Fits};
 ghost use Rattle.scan.specs.Standing.{state_in};
-ghost use Rattle.delivery.specs.Deliveries.{StandsIn, value_in, need_of, Written};
+ghost use Rattle.delivery.specs.Deliveries.{StandsIn, value_in, need_of, delivery_of, Written};
 
 use crate::delivery::Delivery;
 use crate::environment::Environment;
@@ -32,15 +32,14 @@ impl Delivery {
         requires stands { StandsIn environment.now.dictionary.now value }
         requires fits { Fits texts.old roll.now meter.old }
         ensures asks { (w : World) → Asks Question.Value (need_of (value_in C.Code.meaning (state_in texts.old roll.now w) environment.now.store.now (R.Reader.meaning environment.now.library.now) value) (state_in texts.old roll.now w)) meter.old meter.new result }
-        ensures written { (w : World) → IfOk result (λ _. Written self.placement (value_in C.Code.meaning (state_in texts.old roll.now w) environment.now.store.now (R.Reader.meaning environment.now.library.now) value) (state_in texts.old roll.now w) texts.new) }
+        ensures written { (breaks : _) (w : World) → self ≡ delivery_of breaks (state_in texts.old roll.now w) → IfOk result (λ _. Written self breaks (value_in C.Code.meaning (state_in texts.old roll.now w) environment.now.store.now (R.Reader.meaning environment.now.library.now) value) (state_in texts.old roll.now w) texts.new roll.now) }
         ensures undone { IfErr result (λ _. texts.new ≡ texts.old) }
         ensures same_area { SameArea texts.old texts.new }
     {
         let n = environment.value_length(signs, value, texts, roll);
         let held = texts.left().len() + texts.right().len();
         meter.put(Question::Value, held.saturating_add(n))?;
-        self.placement
-            .write(signs, environment, value, n, texts, roll);
+        self.write_in_place(signs, environment, value, n, texts, roll);
         Ok(())
     }
 }

@@ -9,8 +9,8 @@ returns-in_err-put-clause-asks g c w =
     let p = err_from_is_err_and c.from_residual.result c.from_residual.ensures.1 in
     rw (p.1, p.2) (short_at_least Value _ _ _ _ _ _ _ _ _ c.left.ensures c.right.ensures c.value_length-n.ensures c.saturating_add.ensures _ c.in_err-put.ensures)
 
-pub write-requires-clause-long : goal.write-requires-clause-long
-write-requires-clause-long g c =
+pub write_in_place-requires-clause-long : goal.write_in_place-requires-clause-long
+write_in_place-requires-clause-long g c =
     exact_length _ _ _ _ _ c.value_length-n.ensures c.saturating_add.ensures c.in_ok-put.ensures.fits (omega arith)
 
 pub returns-clause-asks : goal.returns-clause-asks
