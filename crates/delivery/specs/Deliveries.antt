@@ -1,7 +1,7 @@
 -- How the value of a call goes into the texts of the scan, and what it is taken from. Assumes nothing.
 use Rattle.std.specs.Prelude.{◌≡◌, ℕ, ◌+◌, ◌-◌, Bool, cond, List, ◌++◌, map, length, ⊤}
 use Rattle.std.specs.List.{range_with_len}
-use Rattle.library.specs.Meaning.{Library}
+use Rattle.library.specs.declared.reader.Reader.{Ghosts as OfReader}
 use Rattle.machine.specs.declared.roll.RollEntry.{RollEntry}
 use Rattle.machine.specs.Texts.{Text, Code}
 use Rattle.machine.specs.World as machine
@@ -18,6 +18,7 @@ use Rattle.value.specs.Texts.{value_text}
 use Rattle.delivery.specs.declared.delivery.Placement.{Placement}
 use Rattle.delivery.specs.declared.delivery.Placement.TheVariants.{Active, Passive, Break}
 use Rattle.delivery.specs.declared.delivery.Delivery.{Delivery}
+use Rattle.delivery.specs.declared.environment.Environment.{Environment}
 
 -- the string of a value stands in a dictionary
 abbrev pub StandsIn : Dictionary → Value → Type 0
@@ -29,13 +30,14 @@ StandsIn d other = ⊤
 abbrev pub parameters_in : List RollEntry → Text → List Text
 parameters_in roll left = map (field roll left) (range_with_len (innermost roll + 1) (length roll - (innermost roll + 1)))
 
--- the text of a value of that call, in a code, the bytes of a store and a library
-abbrev pub text_in : Code → List RollEntry → Text → List ℕ → Library → Value → Text
-text_in code roll left store library v = value_text code (parameters_in roll left) store library v
+module _ {R : Type 0} {reader : OfReader R} (code : Code) (e : Environment R reader) (v : Value) where
+  -- the text of a value of that call
+  abbrev pub text_in : List RollEntry → Text → Text
+  text_in roll left = value_text code (parameters_in roll left) e.store.now (reader.meaning e.library.now) v
 
--- the text of a value of the innermost call of a state
-abbrev pub value_in : Code → State → List ℕ → Library → Value → Text
-value_in code s store library v = value_text code (parameters s) store library v
+  -- the text of a value of the innermost call of a state
+  abbrev pub value_in : State → Text
+  value_in s = value_text code (parameters s) e.store.now (reader.meaning e.library.now) v
 
 -- the bytes that the scan has to hold with a value
 abbrev pub need_of : Text → State → ℕ

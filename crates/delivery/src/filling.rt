@@ -3,8 +3,8 @@ ghost use Rattle.std.specs.Prelude.{◌≡◌, ◌≤◌, length};
 ghost use Rattle.machine.specs.World.{World};
 ghost use Rattle.scan.specs.Texts.{left_of, SameArea, HasRoom};
 ghost use Rattle.scan.specs.Standing.{state_in};
-ghost use Rattle.value.specs.Texts.{capped};
-ghost use Rattle.delivery.specs.Deliveries.{StandsIn, text_in, value_in, delivery_of, Written};
+ghost use Rattle.value.specs.Texts.{value_text, capped};
+ghost use Rattle.delivery.specs.Deliveries.{StandsIn, parameters_in, text_in, value_in, delivery_of, Written};
 
 use crate::delivery::{Delivery, Placement};
 use crate::environment::Environment;
@@ -28,8 +28,8 @@ fn write_from<C: Code, R: Reader>(
 )
     requires whole { dictionary.now.used ≤ length store.now }
     requires stands { StandsIn dictionary.now value }
-    requires fits { length part.old ≡ length (text_in C.Code.meaning roll.now.entries.items left.now store.now (R.Reader.meaning library.now) value) }
-    ensures { part.new ≡ text_in C.Code.meaning roll.now.entries.items left.now store.now (R.Reader.meaning library.now) value }
+    requires fits { length part.old ≡ length (value_text C.Code.meaning (parameters_in roll.now.entries.items left.now) store.now (R.Reader.meaning library.now) value) }
+    ensures { part.new ≡ value_text C.Code.meaning (parameters_in roll.now.entries.items left.now) store.now (R.Reader.meaning library.now) value }
 {
     let parameters = roll.parameters_in(left);
     let sources = Sources {
@@ -52,7 +52,7 @@ impl<'a, R: Reader> Environment<'a, R> {
         roll: &Roll,
     ) -> usize
         requires { StandsIn self.now.dictionary.now value }
-        ensures { result ≡ capped (length (text_in C.Code.meaning roll.now.entries.items (left_of texts.now) self.now.store.now (R.Reader.meaning self.now.library.now) value)) }
+        ensures { result ≡ capped (length (text_in C.Code.meaning self.now value roll.now.entries.items (left_of texts.now))) }
     {
         let parameters = roll.parameters(texts);
         let sources = Sources {
@@ -79,8 +79,8 @@ impl Delivery {
     )
         requires stands { StandsIn environment.now.dictionary.now value }
         requires room { HasRoom n texts.old }
-        requires long { n ≡ length (text_in C.Code.meaning roll.now.entries.items (left_of texts.old) environment.now.store.now (R.Reader.meaning environment.now.library.now) value) }
-        ensures written { (breaks : _) (w : World) → self ≡ delivery_of breaks (state_in texts.old roll.now w) → Written self breaks (value_in C.Code.meaning (state_in texts.old roll.now w) environment.now.store.now (R.Reader.meaning environment.now.library.now) value) (state_in texts.old roll.now w) texts.new roll.now }
+        requires long { n ≡ length (text_in C.Code.meaning environment.now value roll.now.entries.items (left_of texts.old)) }
+        ensures written { (breaks : _) (w : World) → self ≡ delivery_of breaks (state_in texts.old roll.now w) → Written self breaks (value_in C.Code.meaning environment.now value (state_in texts.old roll.now w)) (state_in texts.old roll.now w) texts.new roll.now }
         ensures same_area { SameArea texts.old texts.new }
     {
         let dictionary = environment.dictionary;

@@ -31,8 +31,8 @@ impl Delivery {
     ) -> Result<(), Refusal>
         requires stands { StandsIn environment.now.dictionary.now value }
         requires fits { Fits texts.old roll.now meter.old }
-        ensures asks { (w : World) → Asks Question.Value (need_of (value_in C.Code.meaning (state_in texts.old roll.now w) environment.now.store.now (R.Reader.meaning environment.now.library.now) value) (state_in texts.old roll.now w)) meter.old meter.new result }
-        ensures written { (breaks : _) (w : World) → self ≡ delivery_of breaks (state_in texts.old roll.now w) → IfOk result (λ _. Written self breaks (value_in C.Code.meaning (state_in texts.old roll.now w) environment.now.store.now (R.Reader.meaning environment.now.library.now) value) (state_in texts.old roll.now w) texts.new roll.now) }
+        ensures asks { (w : World) → Asks Question.Value (need_of (value_in C.Code.meaning environment.now value (state_in texts.old roll.now w)) (state_in texts.old roll.now w)) meter.old meter.new result }
+        ensures written { (breaks : _) (w : World) → self ≡ delivery_of breaks (state_in texts.old roll.now w) → IfOk result (λ _. Written self breaks (value_in C.Code.meaning environment.now value (state_in texts.old roll.now w)) (state_in texts.old roll.now w) texts.new roll.now) }
         ensures undone { IfErr result (λ _. texts.new ≡ texts.old) }
         ensures same_area { SameArea texts.old texts.new }
     {
