@@ -1,3 +1,4 @@
 pub mod Chains
 pub mod Calling
 pub mod Names
+pub mod Endings

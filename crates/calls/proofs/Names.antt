@@ -18,26 +18,32 @@ use Rattle.dictionary.specs.LookingUp.{shown}
 use Rattle.dictionary.specs.Meant.{dictionary_in}
 use Rattle.scan.specs.Meeting.{Meets}
 use Rattle.world.specs.declared.world.World as processor
-use Rattle.world.specs.Standing.{world_in, Ready, SameMemory}
+use Rattle.world.specs.Standing.{world_in, SameMemory}
 use Rattle.calls.specs.declared.ready_call.ReadyCall.{ReadyCall}
+use Rattle.calls.specs.Ends.{MayCall}
 use Rattle.calls.specs.Meeting.{MeetsWith}
 use Rattle.calls.specs.ReadyCalls.{ready_of, Readies}
 use Rattle.calls.specs.Retrieving.{Means, Retrieves}
 use Rattle.calls.proofs.Chains.{with_value, err_with, then_met, then_stopped}
 
 module _ {K : Type 0} (reader : OfReader K) where
-  -- with the same memory, and within the same bounds, it is ready still
-  pub still_ready : (v v' : processor.World K) (b b' : Amounts) → SameMemory reader v v' → b' ≡ b → Ready reader v b → Ready reader v' b'
-  still_ready v v' b b' same bounds h = subst (Ready reader v') (sym bounds) (record {
-    names = subst (λ n. b.names ≤ n) (sym same.rows) h.names;
-    store = subst (λ n. b.store ≤ n) (sym same.store) h.store;
-    print = subst (λ n. b.print ≤ n) (sym same.print) h.print;
-    called = subst (λ n. b.scan ≤ n) (sym same.called) h.called;
-    scratch = subst (λ n. n ≤ length v'.scratch.now) (sym same.store) (subst (λ n. length v.store.now ≤ n) (sym same.scratch) h.scratch);
-    small_store = h.small_store;
-    small_print = h.small_print;
-    small_scan = h.small_scan;
-  })
+  -- with the same memory, and within the same bounds, calls can be made still
+  pub still_ready : (v v' : processor.World K) (b b' : Amounts) → SameMemory reader v v' → b' ≡ b → MayCall reader v b → MayCall reader v' b'
+  still_ready v v' b b' same bounds h =
+      let r = h.ready in
+      subst (MayCall reader v') (sym bounds) (record {
+        ready = record {
+          names = subst (λ n. b.names ≤ n) (sym same.rows) r.names;
+          store = subst (λ n. b.store ≤ n) (sym same.store) r.store;
+          print = subst (λ n. b.print ≤ n) (sym same.print) r.print;
+          called = subst (λ n. b.scan ≤ n) (sym same.called) r.called;
+          scratch = subst (λ n. n ≤ length v'.scratch.now) (sym same.store) (subst (λ n. length v.store.now ≤ n) (sym same.scratch) r.scratch);
+          small_store = r.small_store;
+          small_print = r.small_print;
+          small_scan = r.small_scan;
+        };
+        small = subst (λ n. n ≤ 32768) (sym same.store) h.small;
+      })
 
   module _ (code : Code) (name : Text) (v v' : processor.World K) (m m' : Meter) where
     abbrev here : Text → World

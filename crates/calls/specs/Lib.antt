@@ -3,3 +3,4 @@ pub mod Planned
 pub mod Meeting
 pub mod ReadyCalls
 pub mod Retrieving
+pub mod Ends

@@ -1,5 +1,5 @@
 -- What a plan stands for in a dictionary that lies in a store, and a library.
-use Rattle.std.specs.Prelude.{◌≡◌, ℕ, List, Result, MatchResult, ⊤}
+use Rattle.std.specs.Prelude.{◌≡◌, ℕ, List, Result, MatchResult}
 use Rattle.library.specs.Meaning.{Library}
 use Rattle.refusal.specs.declared.Refusal.{Refusal}
 use Rattle.machine.specs.Texts.{Text, Code}
@@ -7,19 +7,10 @@ use Rattle.machine.specs.Faults.{Fault, refusal_of}
 use Rattle.machine.specs.World.{World, Outcome, faults}
 use Rattle.dictionary.specs.declared.dictionary.Dictionary.{Dictionary}
 use Rattle.dictionary.specs.Meant.{dictionary_in}
-use Rattle.dictionary.specs.Finding.{RowAt}
-use Rattle.dictionary.specs.Strings.{place_of}
-use Rattle.value.specs.declared.value.Value.{Value}
-use Rattle.value.specs.declared.value.Value.TheVariants.{Passed, Filled}
+use Rattle.delivery.specs.Deliveries.{StandsIn}
 use Rattle.plan.specs.declared.plan.Plan.{Plan}
 use Rattle.plan.specs.Effects.{May}
 use Rattle.plan.specs.Plans.{outcome_of}
-
--- the string of a value stands in the dictionary
-abbrev pub StandsIn : Dictionary → Value → Type 0
-StandsIn d (Passed s len) = RowAt d (place_of s)
-StandsIn d (Filled s created) = RowAt d (place_of s)
-StandsIn d other = ⊤
 
 module _ (code : Code) (ps : List Text) (d : Dictionary) (store : List ℕ) (l : Library) where
   -- the world has them

@@ -6,13 +6,13 @@ use Rattle.machine.specs.Texts.{Text, Code}
 use Rattle.machine.specs.Chain.{Run}
 use Rattle.machine.specs.World.{World, Ready, calling}
 use Rattle.meter.specs.declared.meter.Meter.{Meter}
+use Rattle.delivery.specs.Deliveries.{StandsIn}
 use Rattle.value.specs.Texts.{value_text}
 use Rattle.plan.specs.Effects.{performed, asks_of, placed_by, May}
 use Rattle.world.specs.declared.world.World as processor
 use Rattle.world.specs.Standing.{world_in, HasRoomFor}
 use Rattle.calls.specs.declared.ready_call.ReadyCall.{ReadyCall}
 use Rattle.calls.specs.Meeting.{MeetsWith}
-use Rattle.calls.specs.Planned.{StandsIn}
 
 module _ {K : Type 0} (reader : OfReader K) (code : Code) (ps : List Text) where
   -- what is ready, in the machine's world w

@@ -1,11 +1,12 @@
 // The call of a built-in.
 ghost use Rattle.std.specs.Prelude.{◌≢◌, ◌≤◌, length};
+ghost use Rattle.calls.specs.Ends.{MayCall};
 ghost use Rattle.calls.specs.Outcomes.{outcome_for};
 ghost use Rattle.calls.specs.ReadyCalls.{Readies};
 ghost use Rattle.machine.specs.Dictionary.{built_in};
 ghost use Rattle.machine.specs.World.{running};
 ghost use Rattle.machine.specs.Functions.{apply as apply_of, perform as perform_of};
-ghost use Rattle.world.specs.Standing.{Ready, SameMemory};
+ghost use Rattle.world.specs.Standing.{SameMemory};
 
 use crate::parts::Parts;
 use crate::planning::plan_from;
@@ -31,7 +32,7 @@ fn ready_planned<C: Code, K: Keeper, P: Parts<C, K>>(
     meter: &mut Meter,
 ) -> Result<ReadyCall, Refusal>
     requires plannable { function ≢ BuiltIn.Library LibraryFunction.Copy }
-    requires ready { Ready K.Reader world.old meter.old.bounds }
+    requires ready { MayCall K.Reader world.old meter.old.bounds }
     ensures readies { Readies K.Reader C.Code.meaning parameters.now (λ w. running w (outcome_for C.Code.meaning function parameters.now w)) world.old world.new meter.old meter.new result }
     ensures memory { SameMemory K.Reader world.old world.new }
 {
@@ -65,7 +66,7 @@ fn ready_copied<C: Code, K: Keeper, P: Parts<C, K>>(
     parameters: &Parameters<'_>,
     meter: &mut Meter,
 ) -> Result<ReadyCall, Refusal>
-    requires ready { Ready K.Reader world.old meter.old.bounds }
+    requires ready { MayCall K.Reader world.old meter.old.bounds }
     ensures readies { Readies K.Reader C.Code.meaning parameters.now (apply_of C.Code.meaning (BuiltIn.Library LibraryFunction.Copy) parameters.now) world.old world.new meter.old meter.new result }
     ensures memory { SameMemory K.Reader world.old world.new }
 {
@@ -83,7 +84,7 @@ fn apply<C: Code, K: Keeper, P: Parts<C, K>>(
     function: BuiltIn,
     meter: &mut Meter,
 ) -> Result<ReadyCall, Refusal>
-    requires ready { Ready K.Reader world.old meter.old.bounds }
+    requires ready { MayCall K.Reader world.old meter.old.bounds }
     ensures readies { Readies K.Reader C.Code.meaning parameters.now (apply_of C.Code.meaning function parameters.now) world.old world.new meter.old meter.new result }
     ensures memory { SameMemory K.Reader world.old world.new }
 {
@@ -103,7 +104,7 @@ pub(crate) fn ready_built_in<C: Code, K: Keeper, P: Parts<C, K>>(
     function: BuiltIn,
     meter: &mut Meter,
 ) -> Result<ReadyCall, Refusal>
-    requires ready { Ready K.Reader world.old meter.old.bounds }
+    requires ready { MayCall K.Reader world.old meter.old.bounds }
     ensures readies { Readies K.Reader C.Code.meaning parameters.now (perform_of C.Code.meaning (Some (built_in function)) parameters.now) world.old world.new meter.old meter.new result }
     ensures memory { SameMemory K.Reader world.old world.new }
 {

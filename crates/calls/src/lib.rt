@@ -3,6 +3,7 @@
 #![tactic(auto)]
 
 mod applying;
+mod ending;
 mod filling;
 mod parts;
 mod planning;

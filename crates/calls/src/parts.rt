@@ -37,7 +37,8 @@ pub trait Parts<C: Code, K: Keeper> {
         scratch: &mut [u8],
         function: DictionaryFunction,
     ) -> Result<Plan, Refusal>
-        requires { length sources.now.store.now ≤ length scratch.old }
+        requires small { length sources.now.store.now ≤ 32768 }
+        requires fits { length sources.now.store.now ≤ length scratch.old }
         ensures plans { Plans sources.now (on_dictionary C.Code.meaning function sources.now.parameters.now) result }
         ensures scratch { length scratch.new ≡ length scratch.old };
 

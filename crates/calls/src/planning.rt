@@ -52,6 +52,7 @@ fn plan_built_in<C: Code, K: Keeper, P: Parts<C, K>>(
     function: BuiltIn,
 ) -> Result<Plan, Refusal>
     requires plannable { function ≢ BuiltIn.Library LibraryFunction.Copy }
+    requires small { length sources.now.store.now ≤ 32768 }
     requires scratch { length sources.now.store.now ≤ length scratch.old }
     ensures plans { Plans sources.now (outcome_for C.Code.meaning function sources.now.parameters.now) result }
     ensures scratch { length scratch.new ≡ length scratch.old }
@@ -80,6 +81,7 @@ pub(crate) fn plan_from<'a, C: Code, K: Keeper, P: Parts<C, K>>(
 ) -> Result<Plan, Refusal>
     requires plannable { function ≢ BuiltIn.Library LibraryFunction.Copy }
     requires whole { dictionary.now.used ≤ length store.now }
+    requires small { length store.now ≤ 32768 }
     requires scratch { length store.now ≤ length scratch.old }
     ensures plans { PlansIn C.Code.meaning parameters.now dictionary.now store.now (K.Reader.meaning library.now) (outcome_for C.Code.meaning function parameters.now) result }
     ensures scratch { length scratch.new ≡ length scratch.old }

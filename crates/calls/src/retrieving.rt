@@ -1,8 +1,9 @@
 // The function of a name.
+ghost use Rattle.calls.specs.Ends.{MayCall};
 ghost use Rattle.calls.specs.ReadyCalls.{Readies};
 ghost use Rattle.calls.specs.Retrieving.{Means, Retrieves};
 ghost use Rattle.machine.specs.Functions.{function as function_of};
-ghost use Rattle.world.specs.Standing.{Ready, SameMemory};
+ghost use Rattle.world.specs.Standing.{SameMemory};
 
 use crate::applying::ready_built_in;
 use crate::filling::ready_string;
@@ -34,7 +35,7 @@ fn retrieve<C: Code, K: Keeper, P: Parts<C, K>>(
     name: &[u8],
     meter: &mut Meter,
 ) -> Result<Option<Meaning>, Refusal>
-    requires ready { Ready K.Reader world.old meter.old.bounds }
+    requires ready { MayCall K.Reader world.old meter.old.bounds }
     ensures retrieves { Retrieves K.Reader C.Code.meaning name.now world.old world.new meter.old meter.new result }
     ensures memory { SameMemory K.Reader world.old world.new }
 {
@@ -53,7 +54,7 @@ pub(crate) fn ready_call<C: Code, K: Keeper, P: Parts<C, K>>(
     parameters: &Parameters<'_>,
     meter: &mut Meter,
 ) -> Result<ReadyCall, Refusal>
-    requires ready { Ready K.Reader world.old meter.old.bounds }
+    requires ready { MayCall K.Reader world.old meter.old.bounds }
     ensures readies { Readies K.Reader C.Code.meaning parameters.now (function_of C.Code.meaning name.now parameters.now) world.old world.new meter.old meter.new result }
     ensures memory { SameMemory K.Reader world.old world.new }
 {
