@@ -25,8 +25,8 @@ use Rattle.world.specs.Standing.{world_in, HasRoomFor}
 use Rattle.calls.specs.declared.ready_call.ReadyCall.{ReadyCall}
 use Rattle.calls.specs.Meeting.{MeetsWith}
 use Rattle.calls.specs.Outcomes.{outcome_for}
-use Rattle.calls.specs.Planned.{Has, PlannedIn}
-use Rattle.calls.specs.ReadyCalls.{ready_of, MayEnd, Readies}
+use Rattle.calls.specs.Planned.{PlannedIn}
+use Rattle.calls.specs.ReadyCalls.{ready_of, Readies}
 use Rattle.calls.proofs.Chains.{with_value, err_with}
 
 module _ {K : Type 0} (reader : OfReader K) (code : Code) (ps : List Text) (v : processor.World K) where

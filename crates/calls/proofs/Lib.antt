@@ -2,3 +2,4 @@ pub mod Chains
 pub mod Calling
 pub mod Names
 pub mod Endings
+pub mod Made

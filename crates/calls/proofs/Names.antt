@@ -1,21 +1,19 @@
 -- From what a name means to the call of it. Assumes nothing.
-use Rattle.std.proofs.Common.{◌≡◌, ◌≤◌, List, [], None, Option, Ok, Err, Result, refl, sym, subst, ◌∙◌, length}
+use Rattle.std.proofs.Common.{◌≡◌, ◌≤◌, List, None, Option, Ok, Err, Result, refl, sym, subst, length}
 use Rattle.std.specs.Option.{option_map}
 use Rattle.library.specs.declared.reader.Reader.{Ghosts as OfReader}
 use Rattle.refusal.specs.declared.Refusal.{Refusal}
 use Rattle.refusal.specs.declared.Refusal.TheVariants.{FunctionUndefined}
 use Rattle.machine.specs.declared.amounts.Amounts.{Amounts}
 use Rattle.machine.specs.Texts.{Text, Code}
-use Rattle.machine.specs.Chain.{Run}
 use Rattle.machine.specs.Dictionary.{look_up}
 use Rattle.machine.specs.Dictionary as machine
-use Rattle.machine.specs.World.{World, Ready as ReadyOf, calling}
+use Rattle.machine.specs.World.{World, calling}
 use Rattle.machine.specs.Libraries.{program_named, retrieve, unless_defined, retrieving}
 use Rattle.machine.specs.Functions.{perform, function}
 use Rattle.meter.specs.declared.meter.Meter.{Meter}
 use Rattle.dictionary.specs.declared.meaning.Meaning.{Meaning}
 use Rattle.dictionary.specs.LookingUp.{shown}
-use Rattle.dictionary.specs.Meant.{dictionary_in}
 use Rattle.scan.specs.Meeting.{Meets}
 use Rattle.world.specs.declared.world.World as processor
 use Rattle.world.specs.Standing.{world_in, SameMemory}

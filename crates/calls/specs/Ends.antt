@@ -1,9 +1,9 @@
 -- How calls are held to the machine's.
-use Rattle.std.specs.Prelude.{◌≡◌, ℕ, ◌≤◌, List, [], Result, IfErr, length}
+use Rattle.std.specs.Prelude.{◌≡◌, ◌≤◌, [], Result, IfErr, length}
 use Rattle.library.specs.declared.reader.Reader.{Ghosts as OfReader}
 use Rattle.refusal.specs.declared.Refusal.{Refusal}
 use Rattle.machine.specs.declared.amounts.Amounts.{Amounts}
-use Rattle.machine.specs.Texts.{Text, Code}
+use Rattle.machine.specs.Texts.{Text}
 use Rattle.machine.specs.Chain.{Run}
 use Rattle.machine.specs.World.{World, calling}
 use Rattle.machine.specs.Scan.{State}

@@ -3,9 +3,14 @@
 #![tactic(auto)]
 
 mod applying;
+mod calls;
 mod ending;
 mod filling;
+mod making;
 mod parts;
 mod planning;
 mod ready_call;
 mod retrieving;
+
+pub use calls::Calls;
+pub use parts::Parts;

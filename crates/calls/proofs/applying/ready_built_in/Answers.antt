@@ -1,4 +1,4 @@
-use Rattle.std.proofs.Common.{◌≡◌, ◌≤◌, leb, length, true, sym, subst}
+use Rattle.std.proofs.Common.{◌≡◌, leb, length, true, sym}
 use Rattle.std.proofs.lemmas.Bool.{cond-true, le-leb}
 use Rattle.machine.specs.BuiltIns.{least}
 use Rattle.calls.proofs.Calling.{readies_alike}

@@ -1,6 +1,5 @@
-use Rattle.std.proofs.Common.{sym, subst, ◌∙◌}
+use Rattle.std.proofs.Common.{sym, subst}
 use Rattle.std.proofs.lemmas.Result.{err_from_is_err_and}
-use Rattle.machine.specs.Scan.{parameters}
 use Rattle.scan.specs.Standing.{state_in}
 use Rattle.delivery.specs.Deliveries.{StandsIn}
 use Rattle.world.specs.Standing.{world_in}

@@ -1,0 +1,13 @@
+// What makes the calls of a scan.
+
+use code::Code;
+use signs::Signs;
+use std::marker::PhantomData;
+use world::World;
+
+#[derive(Drop)]
+pub struct Calls<'a, C: Code, K, P> {
+    pub signs: &'a Signs<C>,
+    pub world: World<'a, K>,
+    pub parts: PhantomData<P>,
+}

@@ -1,0 +1,76 @@
+// The call of a function, from its name to its end.
+ghost use Rattle.std.specs.Prelude.{◌≡◌, ◌≤◌, length};
+ghost use Rattle.calls.specs.Ends.{Ends, MayCall};
+ghost use Rattle.machine.specs.Scan.{called_name, make_call as make_call_of};
+ghost use Rattle.scan.specs.Making.{Fits, GoesIn};
+ghost use Rattle.scan.specs.Standing.{state_in};
+ghost use Rattle.world.specs.Standing.{world_in, SameMemory};
+
+use crate::calls::Calls;
+use crate::ending::end_call;
+use crate::parts::Parts;
+use crate::retrieving::ready_call;
+use code::Code;
+use library::Keeper;
+use meter::Meter;
+use refusal::Refusal;
+use scan::{CallMaker, Roll, ScanTexts};
+use signs::Signs;
+use world::World;
+
+// The innermost call is made. Its name is not kept.
+fn make<C: Code, K: Keeper, P: Parts<C, K>>(
+    world: &mut World<'_, K>,
+    signs: &Signs<C>,
+    texts: &mut ScanTexts<'_>,
+    roll: &mut Roll,
+    meter: &mut Meter,
+) -> Result<(), Refusal>
+    requires fits { Fits texts.old roll.old meter.old }
+    requires ready { MayCall K.Reader world.old meter.old.bounds }
+    ensures ends { let s = state_in texts.old roll.old (world_in K.Reader world.old) in Ends K.Reader (called_name s) (make_call_of C.Code.meaning s) world.new texts.old texts.new roll.old roll.new meter.old meter.new result }
+    ensures memory { SameMemory K.Reader world.old world.new }
+{
+    let name = roll.name(texts);
+    let parameters = roll.parameters(texts);
+    let ready = ready_call::<C, K, P>(world, signs, name, &parameters, meter)?;
+    end_call::<C, K, P>(world, signs, ready, texts, roll, meter)
+}
+
+// The innermost call is made. Where it is refused, its name is kept.
+fn make_named<C: Code, K: Keeper, P: Parts<C, K>>(
+    world: &mut World<'_, K>,
+    signs: &Signs<C>,
+    texts: &mut ScanTexts<'_>,
+    roll: &mut Roll,
+    meter: &mut Meter,
+) -> Result<(), Refusal>
+    requires fits { Fits texts.old roll.old meter.old }
+    requires ready { MayCall K.Reader world.old meter.old.bounds }
+    ensures goes { GoesIn (make_call_of C.Code.meaning) (world_in K.Reader world.old) (world_in K.Reader world.new) texts.old texts.new roll.old roll.new meter.old meter.new result }
+    ensures memory { SameMemory K.Reader world.old world.new }
+{
+    let made = make::<C, K, P>(world, signs, texts, roll, meter);
+    let called = &mut world.called;
+    match made {
+        Ok(()) => called.clear(),
+        Err(_) => called.set(roll.name(texts)),
+    }
+    made
+}
+
+impl<'a, C: Code, K: Keeper, P: Parts<C, K>> CallMaker<C> for Calls<'a, C, K, P> {
+    ghost world = { λ calls. world_in K.Reader calls.world };
+
+    ghost Ready = { λ calls bounds. MayCall K.Reader calls.world bounds };
+
+    fn make_call(
+        &mut self,
+        texts: &mut ScanTexts<'_>,
+        roll: &mut Roll,
+        meter: &mut Meter,
+    ) -> Result<(), Refusal> {
+        let world = &mut self.world;
+        make_named::<C, K, P>(world, self.signs, texts, roll, meter)
+    }
+}
