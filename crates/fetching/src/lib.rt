@@ -2,7 +2,11 @@
 
 #![tactic(auto)]
 
+mod copying;
 mod defining;
 mod programs;
+mod retrieving;
 
-pub use programs::{copy_program, fetch, retrieve_named};
+pub use copying::copy_program;
+pub use programs::fetch;
+pub use retrieving::retrieve_named;

@@ -2,7 +2,7 @@ use Rattle.std.proofs.Common.{◌≡◌, true, refl}
 use Rattle.library.specs.Name.{fits_name}
 use Rattle.machine.specs.World.{p1}
 use Rattle.fetching.proofs.Sought.{copied}
-use Rattle.fetching.proofs.programs.copy_program.Goals as goal
+use Rattle.fetching.proofs.copying.copy_program.Goals as goal
 
 pub returns-in-Some-clause-meets : goal.returns-in-Some-clause-meets
 returns-in-Some-clause-meets g c n =
