@@ -1,1 +1,5 @@
 pub mod Rooms
+pub mod Again
+pub mod Numbers
+pub mod Segments
+pub mod Marking

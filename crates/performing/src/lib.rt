@@ -5,8 +5,8 @@
 mod classes;
 mod defining;
 mod erasing;
-//mod performing;
-//mod segmenting;
+mod performing;
+mod segmenting;
 mod strings;
 
-//pub use performing::perform;
+pub use performing::perform;
