@@ -3,3 +3,4 @@ pub mod Again
 pub mod Numbers
 pub mod Segments
 pub mod Marking
+pub mod Named

@@ -5,8 +5,11 @@
 mod classes;
 mod defining;
 mod erasing;
+mod handing;
+mod keeping;
 mod performing;
 mod segmenting;
 mod strings;
+mod strings_to_store;
 
 pub use performing::perform;

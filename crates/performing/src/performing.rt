@@ -6,6 +6,7 @@ ghost use Rattle.world.specs.Standing.{world_in, SameMemory, HasRoomFor};
 use crate::classes::{define_class, define_class_of_others, erase_classes};
 use crate::defining::{copy_built_in, copy_string, define_string};
 use crate::erasing::erase_names;
+use crate::keeping::{delete_program, store_program};
 use crate::segmenting::segment;
 use crate::strings::{append, mark_creation, move_pointer};
 use code::Code;
@@ -44,8 +45,8 @@ pub fn perform<C: Code, K: Keeper>(
         Effect::DefineClass => define_class(world, parameters),
         Effect::DefineClassOfOthers => define_class_of_others(world, signs, parameters),
         Effect::EraseClasses => erase_classes(world, parameters),
-        Effect::Store => {}
-        Effect::Delete => {}
+        Effect::Store => store_program(world, signs, parameters),
+        Effect::Delete => delete_program(world, parameters),
         Effect::Print => {}
     }
 }
