@@ -1,5 +1,5 @@
 -- A string that is being segmented: what stands when so many of the parameters have been marked.
-use Rattle.std.proofs.Common.{◌≡◌, ℕ, suc, ◌+◌, ◌-◌, ◌<◌, ◌≤◌, min, List, [], ◌∷◌, length, take, drop, sym, refl, ap, ◌∙◌, subst, arith}
+use Rattle.std.proofs.Common.{◌≡◌, ℕ, suc, ◌+◌, ◌<◌, ◌≤◌, List, length, take, drop, sym, refl, ap, ◌∙◌, arith}
 use Rattle.machine.specs.Texts.{Text, Code, highest_mark}
 use Rattle.machine.specs.Dictionary.{Str, rest_of, change}
 use Rattle.machine.specs.Strings.{with_mark, segmented, with_rest}
@@ -7,13 +7,13 @@ use Rattle.machine.specs.World.{parameter}
 use Rattle.dictionary.specs.declared.dictionary.Dictionary.{Dictionary}
 use Rattle.dictionary.specs.declared.string_place.StringPlace.{StringPlace}
 use Rattle.dictionary.specs.Meant.{dictionary_in}
-use Rattle.dictionary.specs.Finding.{FirstNamed, RowAt, Standing}
+use Rattle.dictionary.specs.Finding.{FirstNamed, RowAt}
 use Rattle.dictionary.specs.Editing.{Kept}
 use Rattle.dictionary.specs.Strings.{place_of, string_in}
 use Rattle.dictionary.proofs.Said.{body_length}
 use Rattle.performing.proofs.Again.{changed_twice, as_it_stands, same_rest, rest_again, rest_there}
 use Rattle.performing.proofs.Numbers.{Marked}
-use Rattle.performing.proofs.Segments.{left, marked_by, one_marked, none_marked, one_left, none_left}
+use Rattle.performing.proofs.Segments.{left, marked_by, one_marked, one_left}
 
 -- by these parameters, of a string s of the dictionary d, which is now the string t of e; the parameters from n on are left,
 -- and the number k is next

@@ -1,5 +1,5 @@
 -- The room that a string with more bytes needs.
-use Rattle.std.proofs.Common.{ℕ, ◌+◌, ◌≤◌, List, length, ◌∙◌, arith, length-append}
+use Rattle.std.proofs.Common.{ℕ, ◌+◌, ◌≤◌, List, length, arith, length-append}
 use Rattle.machine.specs.Texts.{Text}
 use Rattle.machine.specs.Dictionary.{string, change}
 use Rattle.machine.specs.Strings.{appended}

@@ -7,6 +7,7 @@ mod defining;
 mod erasing;
 mod handing;
 mod keeping;
+mod lines;
 mod performing;
 mod segmenting;
 mod strings;

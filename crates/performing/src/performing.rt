@@ -7,6 +7,7 @@ use crate::classes::{define_class, define_class_of_others, erase_classes};
 use crate::defining::{copy_built_in, copy_string, define_string};
 use crate::erasing::erase_names;
 use crate::keeping::{delete_program, store_program};
+use crate::lines::print;
 use crate::segmenting::segment;
 use crate::strings::{append, mark_creation, move_pointer};
 use code::Code;
@@ -47,6 +48,6 @@ pub fn perform<C: Code, K: Keeper>(
         Effect::EraseClasses => erase_classes(world, parameters),
         Effect::Store => store_program(world, signs, parameters),
         Effect::Delete => delete_program(world, parameters),
-        Effect::Print => {}
+        Effect::Print => print(world, signs, parameters),
     }
 }

@@ -1,7 +1,7 @@
-use Rattle.std.proofs.Common.{◌+◌, ◌<◌, ◌≤◌, ◌≡◌, length, suc, sym, ap, ◌∙◌, arith}
+use Rattle.std.proofs.Common.{suc, sym, ap, ◌∙◌, arith}
 use Rattle.machine.specs.Texts.{highest_mark}
 use Rattle.performing.proofs.Numbers.{mark_there, mark_absent}
-use Rattle.performing.proofs.Segments.{none_marked, none_left, marked_by}
+use Rattle.performing.proofs.Segments.{none_marked, none_left}
 use Rattle.performing.proofs.Marking.{begins, marks_one, ends}
 use Rattle.performing.proofs.segmenting.segment_by_all.Goals as goal
 

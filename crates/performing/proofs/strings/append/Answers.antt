@@ -1,4 +1,3 @@
-use Rattle.std.proofs.Common.{◌+◌, ◌≤◌, length, subst, sym, ap}
 use Rattle.machine.specs.World.{p2}
 use Rattle.performing.proofs.Rooms.{more_fits}
 use Rattle.performing.proofs.strings.append.Goals as goal

@@ -1,0 +1,9 @@
+// The questions about needs that are put before an effect.
+
+#![tactic(auto)]
+
+mod answering;
+mod asking;
+mod questions;
+
+pub use asking::ask;
