@@ -1,9 +1,9 @@
 // The questions before each kind of effect.
-ghost use Rattle.std.specs.Prelude.{◌≡◌, length};
+ghost use Rattle.std.specs.Prelude.{◌≡◌, List, Bool, length};
 ghost use Rattle.machine.specs.Texts.{Code as AnyCode};
-ghost use Rattle.machine.specs.Dictionary.{Meaning, body_of, define};
-ghost use Rattle.machine.specs.World.{World as AnyWorld, names_and_store, p1};
-ghost use Rattle.dictionary.specs.Meant.{dictionary_in};
+ghost use Rattle.machine.specs.Dictionary.{Meaning, body_of, define, with_class, with_classes};
+ghost use Rattle.machine.specs.World.{World as AnyWorld, names_and_store, store_only, p1};
+ghost use Rattle.dictionary.specs.Meant.{classes_in, dictionary_in};
 ghost use Rattle.plan.specs.Effects.{May, performed, asks_of};
 ghost use Rattle.world.specs.Standing.{world_in, Ready};
 ghost use Rattle.asking.specs.Answers.{Answers};
@@ -35,6 +35,21 @@ fn ask_definition<K: Keeper>(
     ask_names_and_store(needs, meter)
 }
 
+// Is there room for parameter 1 to be a class?
+fn ask_class<K: Keeper>(
+    world: &World<'_, K>,
+    parameters: &Parameters<'_>,
+    meter: &mut Meter,
+) -> Result<(), Refusal>
+    requires ready { Ready K.Reader world.now meter.old.bounds }
+    ensures { (members : List Bool) (v : AnyWorld) → v.dictionary ≡ with_classes (with_class (p1 parameters.now) members (classes_in world.now.dictionary.now world.now.store.now)) (dictionary_in world.now.dictionary.now world.now.store.now) → Answers meter.old meter.new result store_only v }
+{
+    let needs = world
+        .dictionary
+        .after_define_class(world.store, parameters.get(0));
+    ask_store(needs.bytes, meter)
+}
+
 // Is there room for what an effect is to leave?
 pub(crate) fn answer<C: Code, K: Keeper>(
     world: &World<'_, K>,
@@ -60,12 +75,8 @@ pub(crate) fn answer<C: Code, K: Keeper>(
                 .after_append(string, parameters.get(1).len());
             ask_names_and_store(needs, meter)
         }
-        Effect::DefineClass | Effect::DefineClassOfOthers => {
-            let needs = world
-                .dictionary
-                .after_define_class(world.store, parameters.get(0));
-            ask_store(needs.bytes, meter)
-        }
+        Effect::DefineClass => ask_class(world, parameters, meter),
+        Effect::DefineClassOfOthers => ask_class(world, parameters, meter),
         Effect::Print => {
             let more = lines_length(signs.end_of_line, parameters.get(0));
             ask_print(world.printed.len().saturating_add(more), meter)

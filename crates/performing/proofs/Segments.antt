@@ -3,7 +3,7 @@ use Rattle.std.proofs.Common.{◌≡◌, ℕ, suc, ◌+◌, ◌-◌, ◌<◌, �
 use Rattle.std.proofs.lemmas.Bool.{le-leb, lt-leb}
 use Rattle.std.proofs.lemmas.List.{length-take, drop_all, get_or-take, get_or-drop}
 use Rattle.machine.specs.Texts.{Text, Code}
-use Rattle.machine.specs.Strings.{matches, with_mark, segment_from}
+use Rattle.machine.specs.Strings.{matches, with_mark, Segmented, segment_from}
 use Rattle.machine.specs.World.{parameter}
 
 -- those from parameter n on
@@ -14,27 +14,29 @@ left ps n = drop (n - 1) (take 62 (drop 1 ps))
 abbrev pub marked_by : Code → ℕ → List Text → Text → Text
 marked_by code k ps t = (segment_from code k ps 0 t).marked_text
 
--- it does not depend on how many places there were before
+-- what comes of the substring p, where the number k is there, and where it is not
+abbrev marked_if : Code → ℕ → Text → List Text → Text → ℕ → Bool → Segmented
+marked_if code k p ps t places there =
+    cond there (segment_from code (suc k) ps (places + matches p t) (with_mark p (code.segment_mark k) t)) (record { marked_text = t; places = places; numbered = false })
+
+-- the text does not depend on how many places there were before
 same_text : (code : Code) (ps : List Text) (k a b : ℕ) (t : Text) → (segment_from code k ps a t).marked_text ≡ (segment_from code k ps b t).marked_text
 same_text code [] k a b t = refl
 same_text code (p ∷ ps) k a b t =
     go (leb k 62) (same_text code ps (suc k) (a + matches p t) (b + matches p t) (with_mark p (code.segment_mark k) t))
   where
-    go : (r : Bool) → (segment_from code (suc k) ps (a + matches p t) (with_mark p (code.segment_mark k) t)).marked_text ≡ (segment_from code (suc k) ps (b + matches p t) (with_mark p (code.segment_mark k) t)).marked_text
-        → (cond r (segment_from code (suc k) ps (a + matches p t) (with_mark p (code.segment_mark k) t)) (record { marked_text = t; places = a; numbered = false })).marked_text
-        ≡ (cond r (segment_from code (suc k) ps (b + matches p t) (with_mark p (code.segment_mark k) t)) (record { marked_text = t; places = b; numbered = false })).marked_text
+    go : (there : Bool) → (marked_if code k p ps t a true).marked_text ≡ (marked_if code k p ps t b true).marked_text → (marked_if code k p ps t a there).marked_text ≡ (marked_if code k p ps t b there).marked_text
     go true h = h
     go false h = refl
 
 pub one_marked : (code : Code) (k : ℕ) (p : Text) (ps : List Text) (t : Text) → k ≤ 62 → marked_by code k (p ∷ ps) t ≡ marked_by code (suc k) ps (with_mark p (code.segment_mark k) t)
 one_marked code k p ps t h =
-    ap (λ r. (cond r (segment_from code (suc k) ps (0 + matches p t) (with_mark p (code.segment_mark k) t)) (record { marked_text = t; places = 0; numbered = false })).marked_text) (le-leb k 62 h)
+    ap (λ there. (marked_if code k p ps t 0 there).marked_text) (le-leb k 62 h)
     ∙ same_text code ps (suc k) (0 + matches p t) 0 (with_mark p (code.segment_mark k) t)
 
 pub none_marked : (code : Code) (k : ℕ) (ps : List Text) (t : Text) → 62 < k → marked_by code k ps t ≡ t
 none_marked code k [] t h = refl
-none_marked code k (p ∷ ps) t h =
-    ap (λ r. (cond r (segment_from code (suc k) ps (0 + matches p t) (with_mark p (code.segment_mark k) t)) (record { marked_text = t; places = 0; numbered = false })).marked_text) (lt-leb k 62 h)
+none_marked code k (p ∷ ps) t h = ap (λ there. (marked_if code k p ps t 0 there).marked_text) (lt-leb k 62 h)
 
 left_length : (ps : List Text) → length (take 62 (drop 1 ps)) ≡ min 62 (length ps - 1)
 left_length ps = length-take 62 (drop 1 ps) ∙ ap (min 62) (length-drop 1 ps)

@@ -1,0 +1,7 @@
+use Rattle.std.proofs.Common.{sym, subst}
+use Rattle.dictionary.specs.Needing.{Takes}
+use Rattle.asking.proofs.answering.ask_definition.Goals as goal
+
+pub returns : goal.returns
+returns g c code m v size is =
+    c.ask_names_and_store.ensures v (rw (is, ← c.get.ensures) (c.after_define-needs.ensures code m size))
