@@ -1,5 +1,5 @@
 -- Worlds that are alike after an effect, and the room that an answer grants.
-use Rattle.std.proofs.Common.{◌≡◌, ℕ, ◌≤◌, List, Ok, Err, refl, arith}
+use Rattle.std.proofs.Common.{ℕ, List, Ok, Err, refl, arith}
 use Rattle.std.specs.Prelude.{Result, IfOk}
 use Rattle.library.specs.declared.reader.Reader.{Ghosts as OfReader}
 use Rattle.refusal.specs.declared.Refusal.{Refusal}

@@ -1,5 +1,5 @@
 -- What questions about a world that is to be come to.
-use Rattle.std.specs.Prelude.{◌≡◌, ℕ, ◌≤◌, length, ⊤, Result, IfOk}
+use Rattle.std.specs.Prelude.{◌≡◌, ◌≤◌, length, ⊤, Result, IfOk}
 use Rattle.refusal.specs.declared.Refusal.{Refusal}
 use Rattle.machine.specs.declared.amounts.Amounts.{Amounts}
 use Rattle.machine.specs.Dictionary.{names_in, bytes_in}

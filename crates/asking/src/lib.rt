@@ -4,6 +4,7 @@
 
 mod answering;
 mod asking;
+mod effects;
 mod questions;
 
 pub use asking::ask;

@@ -1,6 +1,4 @@
-use Rattle.std.proofs.Common.{sym, subst}
-use Rattle.dictionary.specs.Needing.{Takes}
-use Rattle.asking.proofs.answering.ask_definition.Goals as goal
+use Rattle.asking.proofs.effects.ask_definition.Goals as goal
 
 pub returns : goal.returns
 returns g c code m v size is =

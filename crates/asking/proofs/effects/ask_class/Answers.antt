@@ -1,4 +1,4 @@
-use Rattle.asking.proofs.answering.ask_class.Goals as goal
+use Rattle.asking.proofs.effects.ask_class.Goals as goal
 
 pub returns : goal.returns
 returns g c members v is =
