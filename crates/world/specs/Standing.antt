@@ -1,5 +1,5 @@
 -- The world of the machine that stands in the world of a processor.
-use Rattle.std.specs.Prelude.{◌≡◌, ℕ, ◌≤◌, length, ⊤}
+use Rattle.std.specs.Prelude.{◌≡◌, ◌≤◌, length, ⊤}
 use Rattle.library.specs.declared.reader.Reader.{Ghosts as OfReader}
 use Rattle.machine.specs.World as machine
 use Rattle.machine.specs.declared.amounts.Amounts.{Amounts}
