@@ -1,4 +1,4 @@
-use Rattle.std.proofs.Common.{sym, ◌∙◌, ap, pos, FitsSigned, w64, rules}
+use Rattle.std.proofs.Common.{refl, sym, ◌∙◌, pos, FitsSigned, w64, rules}
 use Rattle.std.proofs.lemmas.Bool.{false≢true}
 use Rattle.std.proofs.lemmas.Int.{to_z-of_z}
 use Rattle.std.proofs.lemmas.Result.{err_from_is_err_and}
@@ -17,7 +17,7 @@ returns-then-numbered-clause-plans g c =
     let fits : FitsSigned w64 c.count_marked-places.result = search rules in
     segment_planned c.args.sources.now _ c.in_ok-string.ensures.string c.in_ok-string.ensures.place
     (λ places. written g.C.Code.meaning (pos places)) _ _ tt c.is_numbered-numbered.ensures
-    (λ enough. ap (written g.C.Code.meaning) (to_z-of_z w64 c.count_marked-places.result fits ∙ c.count_marked-places.ensures.places))
+    (λ enough. rw (to_z-of_z w64 c.count_marked-places.result fits, c.count_marked-places.ensures.places) refl)
 
 pub returns-else-numbered-clause-plans : goal.returns-else-numbered-clause-plans
 returns-else-numbered-clause-plans g c =
