@@ -11,13 +11,16 @@ use selection::highest_mark;
 use signs::Signs;
 
 // The highest number of a mark, and the most substrings that a call uses.
-pub(crate) const MOST: u8 = 62;
+pub(crate) const MOST_MARKS: u8 = 62;
 
 // How many substrings are used.
 pub(crate) fn count_substrings(parameters: &Parameters<'_>) -> u8
     ensures { result ≡ length (substrings parameters.now) }
 {
-    parameters.len().saturating_sub(1).min(usize::from(MOST)) as u8
+    parameters
+        .len()
+        .saturating_sub(1)
+        .min(usize::from(MOST_MARKS)) as u8
 }
 
 // The highest number of a mark in a body.

@@ -7,7 +7,7 @@ ghost use Rattle.dictionary.specs.Finding.{RowAt};
 ghost use Rattle.dictionary.specs.Strings.{place_of, string_in};
 ghost use Rattle.plan.specs.Plans.{Plans};
 
-use crate::marking::{MOST, count_substrings, highest_in, mark_substrings};
+use crate::marking::{MOST_MARKS, count_substrings, highest_in, mark_substrings};
 use code::Code;
 use dictionary::StringPlace;
 use library::Reader;
@@ -32,7 +32,7 @@ fn is_numbered<C: Code, R: Reader>(sources: &Sources<'_, C, R>, string: StringPl
     requires { RowAt sources.now.dictionary.now (place_of string) }
     ensures { result ≡ (segmented C.Code.meaning sources.now.parameters.now (string_in string sources.now.store.now)).numbered }
 {
-    highest_of(sources, string) + count_substrings(sources.parameters) <= MOST
+    highest_of(sources, string) + count_substrings(sources.parameters) <= MOST_MARKS
 }
 
 // How many places are marked where there are numbers enough. What is left of the string is marked in the scratch.
@@ -55,7 +55,7 @@ fn count_marked<C: Code, R: Reader>(
     mark_substrings(sources.signs, sources.parameters, highest, text) as i64
 }
 
-// SS
+// SS: the substrings are marked, and there is no value.
 pub(crate) fn segment_string<C: Code, R: Reader>(
     sources: &Sources<'_, C, R>,
 ) -> Result<Plan, Refusal>
@@ -66,7 +66,7 @@ pub(crate) fn segment_string<C: Code, R: Reader>(
     Ok(Plan::of_effect(Effect::Segment { string, numbered }))
 }
 
-// SC: where numbers run out, the value is never read.
+// SC: the value is how many places are marked. Where numbers run out it is never read.
 pub(crate) fn count_places<C: Code, R: Reader>(
     sources: &Sources<'_, C, R>,
     scratch: &mut [u8],
