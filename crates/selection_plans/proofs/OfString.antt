@@ -1,5 +1,5 @@
 -- What functions come to that begin with the string of a name, in the worlds that sources show.
-use Rattle.std.proofs.Common.{◌≡◌, ℕ, ◌+◌, ◌≤◌, ◌==◌, Bool, not, Some, List, [], ◌∷◌, length, take, drop, Ok, Err, refl, sym, ap, subst, ◌∙◌, arith, length-take, length-drop}
+use Rattle.std.proofs.Common.{◌≡◌, ℕ, ◌+◌, ◌≤◌, ◌==◌, not, Some, List, [], ◌∷◌, length, take, drop, Ok, Err, refl, sym, ap, subst, arith, length-take, length-drop}
 use Rattle.std.specs.Prelude.{Result}
 use Rattle.std.proofs.Math.Dec.{eqb-suc-zero}
 use Rattle.std.specs.Result.{IsErrAnd}
@@ -9,6 +9,7 @@ use Rattle.refusal.specs.declared.Refusal.{Refusal}
 use Rattle.machine.specs.Texts.{Text, not_empty, found_at}
 use Rattle.machine.specs.Dictionary.{Str, rest_of}
 use Rattle.machine.specs.World.{World, Outcome, of_string, parameter, valued, changing, with_string}
+use Rattle.machine.specs.Selection.{passing}
 use Rattle.dictionary.specs.declared.string_place.StringPlace.{StringPlace}
 use Rattle.dictionary.specs.Finding.{Standing}
 use Rattle.dictionary.specs.Strings.{place_of, string_in}
@@ -61,7 +62,7 @@ module _ {C R : Type 0} {code : OfCode C} {reader : OfReader R} (s : Sources C R
       subst P (sym is) (then_plans s (of_string code.meaning (parameter n s.parameters.now)) rest (string_in string s.store.now) (Ok (record { value = v; effect = Nothing })) found
       (record { stands = stands; may = tt; comes = λ w sees. comes w }))
 
-  -- comes to a value there, and the pointer of the string moves
+  -- comes to a value there, and the pointer of the string moves to a place
   pub then_moves : (n : ℕ) (string : StringPlace) (to : ℕ) (v : Value) (p : Plan) (rest : World → Str → Outcome)
       → Found n string → Named n string → to ≤ string.extent.length → Stands s v → p ≡ record { value = v; effect = MovePointer n string to }
       → ((w : World) → rest w (string_in string s.store.now) ≡ changing (text_from s v) (with_string (parameter n s.parameters.now) (record { body = (string_in string s.store.now).body; pointer = to }) w))
@@ -70,3 +71,12 @@ module _ {C R : Type 0} {code : OfCode C} {reader : OfReader R} (s : Sources C R
       let P : Plan → Type 0 = λ p. Planned s (λ w. of_string code.meaning (parameter n s.parameters.now) w (rest w)) p in
       subst P (sym is) (then_plans s (of_string code.meaning (parameter n s.parameters.now)) rest (string_in string s.store.now) (Ok (record { value = v; effect = MovePointer n string to })) found
       (record { stands = stands; may = record { standing = named; within = within }; comes = λ w sees. comes w }))
+
+  -- past so many bytes that are left
+  pub then_passes : (n : ℕ) (string : StringPlace) (k : ℕ) (v : Value) (p : Plan) (rest : World → Str → Outcome)
+      → Found n string → Named n string → k ≤ length (rest_of (string_in string s.store.now)) → Stands s v
+      → p ≡ record { value = v; effect = MovePointer n string (string.extent.pointer + k) }
+      → ((w : World) → rest w (string_in string s.store.now) ≡ passing (parameter n s.parameters.now) (string_in string s.store.now) k (text_from s v) w)
+      → Planned s (λ w. of_string code.meaning (parameter n s.parameters.now) w (rest w)) p
+  then_passes n string k v p rest found named within stands is comes =
+      then_moves n string (string.extent.pointer + k) v p rest found named (stays_within string s.store.now k within) stands is comes

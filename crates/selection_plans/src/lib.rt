@@ -3,7 +3,7 @@
 #![tactic(auto)]
 
 mod characters;
-mod choosing;
+mod ends;
 mod parts;
 mod passing;
 mod planning;

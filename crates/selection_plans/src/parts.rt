@@ -47,9 +47,7 @@ pub(crate) fn call_parameter<C: Code, R: Reader>(
 }
 
 // What stands in the string 1 before the next segment mark.
-pub(crate) fn call_segment<C: Code, R: Reader>(
-    sources: &Sources<'_, C, R>,
-) -> Result<Plan, Refusal>
+pub(crate) fn call_segment<C: Code, R: Reader>(sources: &Sources<'_, C, R>) -> Result<Plan, Refusal>
     ensures { Plans sources.now (call_segment C.Code.meaning sources.now.parameters.now) result }
 {
     let string = find_string(sources, 0)?;

@@ -3,7 +3,7 @@ ghost use Rattle.machine.specs.Selection.{on_selection};
 ghost use Rattle.plan.specs.Plans.{Plans};
 
 use crate::characters::{call_characters, count, skip_characters};
-use crate::choosing::{end_of_string, reset_pointer};
+use crate::ends::{end_of_string, reset_pointer};
 use crate::parts::{call_parameter, call_segment};
 use crate::searching::{character_scan, initial_scan};
 use code::Code;

@@ -12,7 +12,7 @@ use plan::{Plan, find_string};
 use refusal::Refusal;
 use value::{Sources, Value};
 
-// Does a text begin with that one, and is that one not empty?
+// Does a text begin with that one? No text begins with an empty one.
 fn begins_with(text: &[u8], sought: &[u8]) -> bool
     ensures { result ≡ not_empty sought.now && begins sought.now text.now }
 {
@@ -20,9 +20,7 @@ fn begins_with(text: &[u8], sought: &[u8]) -> bool
 }
 
 // Parameter 3 if the string 2 begins with parameter 1, and its pointer moves past that; else parameter 4.
-pub(crate) fn initial_scan<C: Code, R: Reader>(
-    sources: &Sources<'_, C, R>,
-) -> Result<Plan, Refusal>
+pub(crate) fn initial_scan<C: Code, R: Reader>(sources: &Sources<'_, C, R>) -> Result<Plan, Refusal>
     ensures { Plans sources.now (initial_scan C.Code.meaning sources.now.parameters.now) result }
 {
     let string = find_string(sources, 1)?;

@@ -1,10 +1,10 @@
-use Rattle.std.proofs.Common.{◌≡◌, ◌≤◌, [], length, sym, ap}
+use Rattle.std.proofs.Common.{refl}
 use Rattle.machine.specs.Dictionary.{rest_of}
-use Rattle.machine.specs.World.{parameter, of_string}
-use Rattle.machine.specs.Selection.{bytes_to_pass, passing}
+use Rattle.machine.specs.Selection.{bytes_to_pass}
+use Rattle.machine.proofs.Passing.{bytes_within}
 use Rattle.dictionary.specs.Strings.{string_in}
 use Rattle.value.specs.declared.value.Value.TheVariants.{Nothing}
-use Rattle.selection_plans.proofs.OfString.{stopped, then_moves, stays_within}
+use Rattle.selection_plans.proofs.OfString.{stopped, then_passes}
 use Rattle.selection_plans.proofs.characters.skip_characters.Goals as goal
 
 pub returns-in_err-string : goal.returns-in_err-string
@@ -12,11 +12,9 @@ returns-in_err-string g c = stopped c.args.sources.now _ _ _ _ c.in_err-string.e
 
 pub returns : goal.returns
 returns g c =
-    let s = c.args.sources.now in
+    let code = g.C.Code.meaning in
     let string = c.in_ok-string.string in
-    let rest = rest_of (string_in string s.store.now) in
-    let len = c.bytes_to_pass-len.result in
-    let len_is : len ≡ bytes_to_pass g.C.Code.meaning c.args.count rest = rw (← c.rest-rest.ensures) c.bytes_to_pass-len.ensures.bytes in
-    let within : len ≤ length rest = rw (← c.rest-rest.ensures) c.bytes_to_pass-len.ensures.within in
-    then_moves s c.args.name string _ Nothing c.pass.result _ c.in_ok-string.ensures.string c.in_ok-string.ensures.place (stays_within string s.store.now len within) tt c.pass.ensures
-    (λ w. ap (λ k. passing (parameter c.args.name s.parameters.now) (string_in string s.store.now) k [] w) (sym len_is))
+    let rest = rest_of (string_in string c.args.sources.now.store.now) in
+    then_passes c.args.sources.now c.args.name string (bytes_to_pass code c.args.count rest) Nothing c.pass.result _ c.in_ok-string.ensures.string c.in_ok-string.ensures.place
+    (bytes_within code c.args.count rest) tt
+    (rw (← c.rest-rest.ensures, ← c.bytes_to_pass-len.ensures.bytes) c.pass.ensures) (λ w. refl)

@@ -1,11 +1,11 @@
-use Rattle.std.proofs.Common.{◌≡◌, ◌+◌, ◌≤◌, length, Some, sym, ap, ◌∙◌, refl, arith}
+use Rattle.std.proofs.Common.{◌≡◌, ◌+◌, length, Some, sym, ap, ◌∙◌, refl, arith}
 use Rattle.machine.specs.Texts.{found_at}
 use Rattle.machine.specs.Dictionary.{rest_of}
 use Rattle.machine.specs.World.{p1}
 use Rattle.machine.specs.Selection.{before_match}
 use Rattle.dictionary.specs.Strings.{string_in}
 use Rattle.value.specs.declared.value.Value.TheVariants.{Parameter, Passed}
-use Rattle.selection_plans.proofs.OfString.{stopped, found_within, stays_within, then_values, then_moves}
+use Rattle.selection_plans.proofs.OfString.{stopped, found_within, stays_within, then_values, then_passes}
 use Rattle.selection_plans.proofs.searching.character_scan.Goals as goal
 
 pub returns-in_err-string : goal.returns-in_err-string
@@ -26,10 +26,11 @@ returns-in-Some g c =
     let ps = s.parameters.now in
     let string = c.in_ok-string.string in
     let str = string_in string s.store.now in
-    let found : found_at (p1 ps) (rest_of str) ≡ Some c.in-Some.place = rw (← c.get-sought.ensures, ← c.rest-rest.ensures, ← c.find.ensures) c.in-Some.is in
-    then_moves s 1 string _ (Passed string c.in-Some.place) c.pass.result _ c.in_ok-string.ensures.string c.in_ok-string.ensures.place
-    (stays_within string s.store.now _ (rw c.get-sought.ensures (found_within (p1 ps) (rest_of str) c.in-Some.place found))) c.in_ok-string.ensures.place.at c.pass.ensures
-    (λ w. rw c.get-sought.ensures (ap (before_match g.C.Code.meaning ps str w) found))
+    let place = c.in-Some.place in
+    let found : found_at (p1 ps) (rest_of str) ≡ Some place = rw (← c.get-sought.ensures, ← c.rest-rest.ensures, ← c.find.ensures) c.in-Some.is in
+    then_passes s 1 string (place + length (p1 ps)) (Passed string place) c.pass.result _ c.in_ok-string.ensures.string c.in_ok-string.ensures.place
+    (found_within (p1 ps) (rest_of str) place found) c.in_ok-string.ensures.place.at
+    (rw (← c.get-sought.ensures) c.pass.ensures) (λ w. ap (before_match g.C.Code.meaning ps str w) found)
 
 pub returns-in-None : goal.returns-in-None
 returns-in-None g c =

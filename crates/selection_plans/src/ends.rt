@@ -1,4 +1,4 @@
-// The pointer back at the start, and what is chosen at the end: RRP and EOS.
+// The start and the end of a string: RRP and EOS.
 ghost use Rattle.machine.specs.Selection.{reset_pointer, end_of_string};
 ghost use Rattle.plan.specs.Plans.{Plans};
 
@@ -29,10 +29,7 @@ pub(crate) fn end_of_string<C: Code, R: Reader>(
     ensures { Plans sources.now (end_of_string C.Code.meaning sources.now.parameters.now) result }
 {
     let string = find_string(sources, 0)?;
-    let chosen = if sources.dictionary.rest(sources.store, string).is_empty() {
-        1
-    } else {
-        2
-    };
+    let at_end = sources.dictionary.rest(sources.store, string).is_empty();
+    let chosen = if at_end { 1 } else { 2 };
     Ok(Plan::of_value(Value::Parameter(chosen)))
 }

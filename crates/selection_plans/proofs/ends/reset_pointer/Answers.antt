@@ -1,8 +1,7 @@
 use Rattle.std.proofs.Common.{refl, arith}
-use Rattle.machine.specs.World.{p1, of_string}
 use Rattle.value.specs.declared.value.Value.TheVariants.{Nothing}
 use Rattle.selection_plans.proofs.OfString.{stopped, then_moves}
-use Rattle.selection_plans.proofs.choosing.reset_pointer.Goals as goal
+use Rattle.selection_plans.proofs.ends.reset_pointer.Goals as goal
 
 pub returns-in_err-string : goal.returns-in_err-string
 returns-in_err-string g c = stopped c.args.sources.now _ _ _ _ c.in_err-string.ensures.string c.from_residual.ensures.1
