@@ -33,7 +33,8 @@ module _ {C R : Type 0} {code : OfCode C} {reader : OfReader R} (s : Sources C R
   pub texts_compared : (test : Text → Text → Bool) (x y : Text) (so : Bool) → x ≡ p1 s.parameters.now → y ≡ p2 s.parameters.now → so ≡ test x y → Planned s (chosen (test (p1 s.parameters.now) (p2 s.parameters.now)) s.parameters.now) (choice so)
   texts_compared test x y so one other is = rw (is, one, other) (chosen_is_planned (test (p1 s.parameters.now) (p2 s.parameters.now)))
 
-  abbrev numbers : Attempt (ℤ × ℤ)
+  -- the two numbers
+  abbrev pub numbers : Attempt (ℤ × ℤ)
   numbers = paired (λ w go. of_two code.meaning s.parameters.now 15 15 w go)
 
   pub no_numbers : (test : ℤ → ℤ → Bool) (e : Refusal) → Stops s numbers e → Refused s (λ w. compare_numbers code.meaning s.parameters.now w test) e

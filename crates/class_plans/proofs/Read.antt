@@ -18,10 +18,9 @@ module _ {C R : Type 0} {code : OfCode C} {reader : OfReader R} (s : Sources C R
   abbrev pub string_asked : Attempt Str
   string_asked = of_string code.meaning (p2 s.parameters.now)
 
-  module _ {V : Type 0} (tell : List Bool → Str → V) where
-    module _ (members : List Bool) (found : GoesOn s class_asked members) where
-      pub without_string : (e : Refusal) → Stops s string_asked e → Stops s (reading code.meaning s.parameters.now tell) e
-      without_string e h = record { why = h.why; says = h.says; stops = λ w sees go. found.on w sees _ ∙ h.stops w sees _ }
+  module _ {V : Type 0} (tell : List Bool → Str → V) (members : List Bool) (found : GoesOn s class_asked members) where
+    pub without_string : (e : Refusal) → Stops s string_asked e → Stops s (reading code.meaning s.parameters.now tell) e
+    without_string e h = record { why = h.why; says = h.says; stops = λ w sees go. found.on w sees _ ∙ h.stops w sees _ }
 
-      pub both_read : (string : Str) (v : V) → GoesOn s string_asked string → v ≡ tell members string → GoesOn s (reading code.meaning s.parameters.now tell) v
-      both_read string v h is = record { on = λ w sees go. found.on w sees _ ∙ h.on w sees _ ∙ rw is refl }
+    pub both_read : (string : Str) (v : V) → GoesOn s string_asked string → v ≡ tell members string → GoesOn s (reading code.meaning s.parameters.now tell) v
+    both_read string v h is = record { on = λ w sees go. found.on w sees _ ∙ h.on w sees _ ∙ rw is refl }

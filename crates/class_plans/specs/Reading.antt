@@ -1,6 +1,6 @@
 -- What is read of the class 1 and the string 2, as attempts at a value. Assumes nothing.
-use Rattle.std.specs.Prelude.{ℕ, Bool, List, take}
-use Rattle.machine.specs.Texts.{Text, Code}
+use Rattle.std.specs.Prelude.{◌≡◌, ℕ, Bool, List, take}
+use Rattle.machine.specs.Texts.{Text, Code, without_marks}
 use Rattle.machine.specs.Dictionary.{Str, rest_of}
 use Rattle.machine.specs.Classes.{of_class, in_class, class_run, begins_with}
 use Rattle.number.specs.Results.{Attempt}
@@ -27,3 +27,6 @@ run_in store r = (string_in r.string store, r.len)
 -- the bytes of a run
 abbrev pub run_text : Str × ℕ → Text
 run_text r = take r.1 (rest_of r.0)
+
+abbrev pub HasNoMarks : Code → Str × ℕ → Type 0
+HasNoMarks code r = without_marks code (run_text r) ≡ run_text r
