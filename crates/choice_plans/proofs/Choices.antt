@@ -5,8 +5,6 @@ use Rattle.std.specs.Prelude.{if◌then◌else◌, nat_eq}
 use Rattle.code.specs.declared.Code.{Ghosts as OfCode}
 use Rattle.library.specs.declared.reader.Reader.{Ghosts as OfReader}
 use Rattle.refusal.specs.declared.Refusal.{Refusal}
-use Rattle.machine.specs.Texts.{Text}
-use Rattle.machine.specs.World.{p1, p2}
 use Rattle.machine.specs.Arithmetic.{of_two}
 use Rattle.machine.specs.Comparisons.{chosen, equal, compare_numbers}
 use Rattle.number.specs.Results.{Attempt, paired}
@@ -30,8 +28,8 @@ module _ {C R : Type 0} {code : OfCode C} {reader : OfReader R} (s : Sources C R
   chosen_is_planned true = record { stands = tt; may = tt; comes = λ w sees. refl }
   chosen_is_planned false = record { stands = tt; may = tt; comes = λ w sees. refl }
 
-  pub texts_compared : (test : Text → Text → Bool) (x y : Text) (so : Bool) → x ≡ p1 s.parameters.now → y ≡ p2 s.parameters.now → so ≡ test x y → Planned s (chosen (test (p1 s.parameters.now) (p2 s.parameters.now)) s.parameters.now) (choice so)
-  texts_compared test x y so one other is = rw (is, one, other) (chosen_is_planned (test (p1 s.parameters.now) (p2 s.parameters.now)))
+  pub compared : (so test : Bool) → so ≡ test → Planned s (chosen test s.parameters.now) (choice so)
+  compared so test is = rw is (chosen_is_planned test)
 
   -- the two numbers
   abbrev pub numbers : Attempt (ℤ × ℤ)
@@ -41,4 +39,4 @@ module _ {C R : Type 0} {code : OfCode C} {reader : OfReader R} (s : Sources C R
   no_numbers test e h = stopped_at s numbers (λ w v. chosen (test v.0 v.1) s.parameters.now w) e h
 
   pub numbers_compared : (test : ℤ → ℤ → Bool) (x y : ℤ) (so : Bool) → GoesOn s numbers (x, y) → so ≡ test x y → Planned s (λ w. compare_numbers code.meaning s.parameters.now w test) (choice so)
-  numbers_compared test x y so h is = then_plans s numbers (λ w v. chosen (test v.0 v.1) s.parameters.now w) (x, y) (Ok (choice so)) h (rw is (chosen_is_planned (test x y)))
+  numbers_compared test x y so h is = then_plans s numbers (λ w v. chosen (test v.0 v.1) s.parameters.now w) (x, y) (Ok (choice so)) h (compared so (test x y) is)

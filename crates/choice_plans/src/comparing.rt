@@ -1,8 +1,12 @@
 // The comparisons.
+ghost use Rattle.std.specs.Prelude.{◌≡◌};
+ghost use Rattle.std.specs.Str.{bytes_eq};
+ghost use Rattle.machine.specs.Texts.{lower_text};
+ghost use Rattle.machine.specs.World.{p1, p2, parameter};
 ghost use Rattle.machine.specs.Arithmetic.{of_two};
-ghost use Rattle.machine.specs.Comparisons.{chosen as chosen_in, on_comparison};
+ghost use Rattle.machine.specs.Comparisons.{on_comparison};
 ghost use Rattle.number.specs.Results.{paired};
-ghost use Rattle.plan.specs.Plans.{ComesTo, Planned, Plans};
+ghost use Rattle.plan.specs.Plans.{ComesTo, Plans};
 
 use crate::choosing::chosen;
 use code::Code;
@@ -25,6 +29,21 @@ fn read_numbers<C: Code, R: Reader>(sources: &Sources<'_, C, R>) -> Result<(i64,
     read_two(sources.signs, one, other, DIGITS, DIGITS)
 }
 
+// Are the two texts that are compared the same? Their ranks do not count.
+fn are_same<C: Code, R: Reader>(sources: &Sources<'_, C, R>) -> bool
+    ensures { result ≡ bytes_eq (p1 sources.now.parameters.now) (p2 sources.now.parameters.now) }
+{
+    sources.parameters.get(0) == sources.parameters.get(1)
+}
+
+// Is the one parameter lower than the other?
+fn is_lower_than<C: Code, R: Reader>(sources: &Sources<'_, C, R>, one: usize, other: usize) -> bool
+    ensures { result ≡ lower_text C.Code.meaning (parameter one sources.now.parameters.now) (parameter other sources.now.parameters.now) }
+{
+    let (one, other) = (sources.parameters.get(one), sources.parameters.get(other));
+    is_lower(sources.signs, one, other)
+}
+
 // Numbers are compared as integers, and texts by the ranks of their characters, but for their equality.
 pub fn plan_comparison<C: Code, R: Reader>(
     sources: &Sources<'_, C, R>,
@@ -32,7 +51,6 @@ pub fn plan_comparison<C: Code, R: Reader>(
 ) -> Result<Plan, Refusal>
     ensures { Plans sources.now (on_comparison C.Code.meaning function sources.now.parameters.now) result }
 {
-    let (one, other) = (sources.parameters.get(0), sources.parameters.get(1));
     let so = match function {
         ComparisonFunction::Eq => {
             let (x, y) = read_numbers(sources)?;
@@ -46,9 +64,9 @@ pub fn plan_comparison<C: Code, R: Reader>(
             let (x, y) = read_numbers(sources)?;
             x < y
         }
-        ComparisonFunction::EqText => one == other,
-        ComparisonFunction::GtText => is_lower(sources.signs, other, one),
-        ComparisonFunction::LtText => is_lower(sources.signs, one, other),
+        ComparisonFunction::EqText => are_same(sources),
+        ComparisonFunction::GtText => is_lower_than(sources, 1, 0),
+        ComparisonFunction::LtText => is_lower_than(sources, 0, 1),
     };
     Ok(Plan::of_value(chosen(so)))
 }

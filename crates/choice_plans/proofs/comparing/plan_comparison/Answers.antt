@@ -1,11 +1,9 @@
 use Rattle.std.proofs.Common.{rules, ◌∙◌, FitsSigned, w64}
 use Rattle.std.proofs.lemmas.Int.{to_z-of_z}
 use Rattle.std.specs.Prelude.{int_lt}
-use Rattle.std.specs.Str.{bytes_eq}
-use Rattle.machine.specs.Texts.{lower_text}
 use Rattle.std.proofs.lemmas.Result.{err_from_is_err_and}
 use Rattle.machine.specs.Comparisons.{equal}
-use Rattle.choice_plans.proofs.Choices.{equal_bits, texts_compared, no_numbers, numbers_compared}
+use Rattle.choice_plans.proofs.Choices.{equal_bits, compared, no_numbers, numbers_compared}
 use Rattle.choice_plans.proofs.comparing.plan_comparison.Goals as goal
 use Rattle.choice_plans.proofs.comparing.plan_comparison.Goals.{in-Eq+in_ok-x-in-Eq, in-Gt+in_ok-x-in-Gt, in-Lt+in_ok-x-in-Lt, in-EqText, in-GtText, in-LtText}
 
@@ -39,7 +37,7 @@ returns g c = rw (c.of_value.ensures, c.chosen.ensures)
           let fits_x : FitsSigned w64 w.in_ok-x-in-Lt.x = search rules in
           let fits_y : FitsSigned w64 w.in_ok-x-in-Lt.y = search rules in
           rw w.in-Lt.is (numbers_compared c.args.sources.now int_lt _ _ _ w.in_ok-x-in-Lt.ensures (w.so-is ∙ simp (to_z-of_z w64 w.in_ok-x-in-Lt.x fits_x, to_z-of_z w64 w.in_ok-x-in-Lt.y fits_y)))
-      | in-EqText w ↦ rw w.in-EqText.is (texts_compared c.args.sources.now bytes_eq _ _ _ c.get-one.ensures c.get-other.ensures (w.so-is ∙ w.eq-so.ensures))
-      | in-GtText w ↦ rw w.in-GtText.is (texts_compared c.args.sources.now (λ x y. lower_text g.C.Code.meaning y x) _ _ _ c.get-one.ensures c.get-other.ensures (w.so-is ∙ w.is_lower-so.ensures))
-      | in-LtText w ↦ rw w.in-LtText.is (texts_compared c.args.sources.now (lower_text g.C.Code.meaning) _ _ _ c.get-one.ensures c.get-other.ensures (w.so-is ∙ w.is_lower-so-in-LtText.ensures))
+      | in-EqText w ↦ rw w.in-EqText.is (compared c.args.sources.now _ _ (w.so-is ∙ w.are_same-so.ensures))
+      | in-GtText w ↦ rw w.in-GtText.is (compared c.args.sources.now _ _ (w.so-is ∙ w.is_lower_than-so.ensures))
+      | in-LtText w ↦ rw w.in-LtText.is (compared c.args.sources.now _ _ (w.so-is ∙ w.is_lower_than-so-in-LtText.ensures))
     ])
