@@ -1,4 +1,4 @@
-// A call's text and entries go.
+// A call whose value is written: its parameters, and how its text and its entries go.
 ghost use Rattle.std.specs.Prelude.{◌≡◌};
 ghost use Rattle.machine.specs.Texts.{Text};
 ghost use Rattle.machine.specs.World.{World};

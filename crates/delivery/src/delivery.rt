@@ -1,7 +1,7 @@
-// What is known of a call before its value is written.
+// How a call's value goes into the texts.
 
 // Where the value of a call goes.
-#[derive(Clone, Copy, Debug, PartialEq, Eq)]
+#[derive(Clone, Copy)]
 pub enum Placement {
     // before the right text
     Active,
@@ -11,7 +11,8 @@ pub enum Placement {
     Break,
 }
 
-#[derive(Clone, Copy, Debug, PartialEq, Eq)]
+// It is read off before the value is written.
+#[derive(Clone, Copy)]
 pub struct Delivery {
     pub placement: Placement,
     // how many bytes the left text has, with the call in it

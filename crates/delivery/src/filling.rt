@@ -1,4 +1,4 @@
-// A value is taken from its sources.
+// How long a value is, and how it goes into its place.
 ghost use Rattle.std.specs.Prelude.{◌≡◌, ◌≤◌, length};
 ghost use Rattle.machine.specs.World.{World};
 ghost use Rattle.scan.specs.Texts.{left_of, SameArea, HasRoom};
