@@ -8,14 +8,16 @@ ghost use Rattle.machine.specs.World.{running};
 ghost use Rattle.machine.specs.Functions.{apply as apply_of, perform as perform_of};
 ghost use Rattle.world.specs.Standing.{SameMemory};
 
-use crate::parts::Parts;
 use crate::planning::plan_from;
 use crate::ready_call::ReadyCall;
+use asking::ask;
 use built_ins::least_parameters;
 use code::Code;
+use fetching::copy_program;
 use library::Keeper;
 use machine::{BuiltIn, LibraryFunction};
 use meter::Meter;
+use performing::perform;
 use plan::Plan;
 use refusal::Refusal;
 use scan::Parameters;
@@ -24,7 +26,7 @@ use value::Value;
 use world::World;
 
 // A built-in, other than COPY, is planned, and what it needs is asked.
-fn ready_planned<C: Code, K: Keeper, P: Parts<C, K>>(
+fn ready_planned<C: Code, K: Keeper>(
     world: &mut World<'_, K>,
     signs: &Signs<C>,
     parameters: &Parameters<'_>,
@@ -39,7 +41,7 @@ fn ready_planned<C: Code, K: Keeper, P: Parts<C, K>>(
     let dictionary = &*world.dictionary;
     let store = &mut *world.store;
     let library = &*world.library;
-    let plan = plan_from::<C, K, P>(
+    let plan = plan_from(
         signs,
         &*parameters,
         dictionary,
@@ -49,10 +51,10 @@ fn ready_planned<C: Code, K: Keeper, P: Parts<C, K>>(
         function,
     )?;
     if !plan.effect.is_numbered() {
-        P::perform(world, signs, parameters, plan.effect);
+        perform(world, signs, parameters, plan.effect);
         return Err(Refusal::NoMarkNumber);
     }
-    P::ask(world, signs, parameters, plan.effect, meter)?;
+    ask(world, signs, parameters, plan.effect, meter)?;
     Ok(ReadyCall {
         plan,
         numbered: false,
@@ -60,7 +62,7 @@ fn ready_planned<C: Code, K: Keeper, P: Parts<C, K>>(
 }
 
 // COPY has its questions between its definitions, so that nothing is left to be done.
-fn ready_copied<C: Code, K: Keeper, P: Parts<C, K>>(
+fn ready_copied<C: Code, K: Keeper>(
     world: &mut World<'_, K>,
     signs: &Signs<C>,
     parameters: &Parameters<'_>,
@@ -70,14 +72,14 @@ fn ready_copied<C: Code, K: Keeper, P: Parts<C, K>>(
     ensures readies { Readies K.Reader C.Code.meaning parameters.now (apply_of C.Code.meaning (BuiltIn.Library LibraryFunction.Copy) parameters.now) world.old world.new meter.old meter.new result }
     ensures memory { SameMemory K.Reader world.old world.new }
 {
-    P::copy_program(world, signs, parameters, meter)?;
+    copy_program(world, signs, parameters, meter)?;
     Ok(ReadyCall {
         plan: Plan::of_value(Value::Nothing),
         numbered: false,
     })
 }
 
-fn apply<C: Code, K: Keeper, P: Parts<C, K>>(
+fn apply<C: Code, K: Keeper>(
     world: &mut World<'_, K>,
     signs: &Signs<C>,
     parameters: &Parameters<'_>,
@@ -89,15 +91,13 @@ fn apply<C: Code, K: Keeper, P: Parts<C, K>>(
     ensures memory { SameMemory K.Reader world.old world.new }
 {
     match function {
-        BuiltIn::Library(LibraryFunction::Copy) => {
-            ready_copied::<C, K, P>(world, signs, parameters, meter)
-        }
-        planned => ready_planned::<C, K, P>(world, signs, parameters, planned, meter),
+        BuiltIn::Library(LibraryFunction::Copy) => { ready_copied(world, signs, parameters, meter) }
+        planned => ready_planned(world, signs, parameters, planned, meter),
     }
 }
 
 // A built-in, which may have too few parameters.
-pub(crate) fn ready_built_in<C: Code, K: Keeper, P: Parts<C, K>>(
+pub(crate) fn ready_built_in<C: Code, K: Keeper>(
     world: &mut World<'_, K>,
     signs: &Signs<C>,
     parameters: &Parameters<'_>,
@@ -111,5 +111,5 @@ pub(crate) fn ready_built_in<C: Code, K: Keeper, P: Parts<C, K>>(
     if parameters.len() < least_parameters(function) {
         return Err(Refusal::TooFewParameters);
     }
-    apply::<C, K, P>(world, signs, parameters, function, meter)
+    apply(world, signs, parameters, function, meter)
 }

@@ -2,12 +2,10 @@
 
 use code::Code;
 use signs::Signs;
-use std::marker::PhantomData;
 use world::World;
 
 #[derive(Drop)]
-pub struct Calls<'a, C: Code, K, P> {
+pub struct Calls<'a, C: Code, K> {
     pub signs: &'a Signs<C>,
     pub world: World<'a, K>,
-    pub parts: PhantomData<P>,
 }

@@ -11,12 +11,12 @@ ghost use Rattle.scan.specs.Making.{Fits};
 ghost use Rattle.scan.specs.Standing.{state_in};
 ghost use Rattle.world.specs.Standing.{world_in, SameMemory};
 
-use crate::parts::Parts;
 use crate::ready_call::ReadyCall;
 use code::Code;
 use delivery::{Delivery, Environment};
 use library::Keeper;
 use meter::Meter;
+use performing::perform;
 use plan::Effect;
 use refusal::Refusal;
 use scan::{Roll, ScanTexts};
@@ -48,7 +48,7 @@ fn environment<'s, K: Keeper>(world: &'s World<'_, K>) -> Environment<'s, K>
 
 // The value is written before the effect changes what it is taken from; the text of the call goes after that, since the
 // effect's names and texts stand in it.
-pub(crate) fn end_call<C: Code, K: Keeper, P: Parts<C, K>>(
+pub(crate) fn end_call<C: Code, K: Keeper>(
     world: &mut World<'_, K>,
     signs: &Signs<C>,
     ready: ReadyCall,
@@ -70,7 +70,7 @@ pub(crate) fn end_call<C: Code, K: Keeper, P: Parts<C, K>>(
         roll,
         meter,
     )?;
-    P::perform(
+    perform(
         world,
         signs,
         &delivery.parameters(texts, roll),

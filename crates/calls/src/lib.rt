@@ -7,10 +7,8 @@ mod calls;
 mod ending;
 mod filling;
 mod making;
-mod parts;
 mod planning;
 mod ready_call;
 mod retrieving;
 
 pub use calls::Calls;
-pub use parts::Parts;

@@ -8,7 +8,6 @@ ghost use Rattle.world.specs.Standing.{world_in, SameMemory};
 
 use crate::calls::Calls;
 use crate::ending::end_call;
-use crate::parts::Parts;
 use crate::retrieving::ready_call;
 use code::Code;
 use library::Keeper;
@@ -19,7 +18,7 @@ use signs::Signs;
 use world::World;
 
 // The innermost call is made. Its name is not kept.
-fn make<C: Code, K: Keeper, P: Parts<C, K>>(
+fn make<C: Code, K: Keeper>(
     world: &mut World<'_, K>,
     signs: &Signs<C>,
     texts: &mut ScanTexts<'_>,
@@ -33,12 +32,12 @@ fn make<C: Code, K: Keeper, P: Parts<C, K>>(
 {
     let name = roll.name(texts);
     let parameters = roll.parameters(texts);
-    let ready = ready_call::<C, K, P>(world, signs, name, &parameters, meter)?;
-    end_call::<C, K, P>(world, signs, ready, texts, roll, meter)
+    let ready = ready_call(world, signs, name, &parameters, meter)?;
+    end_call(world, signs, ready, texts, roll, meter)
 }
 
 // The innermost call is made. Where it is refused, its name is kept.
-fn make_named<C: Code, K: Keeper, P: Parts<C, K>>(
+fn make_named<C: Code, K: Keeper>(
     world: &mut World<'_, K>,
     signs: &Signs<C>,
     texts: &mut ScanTexts<'_>,
@@ -50,7 +49,7 @@ fn make_named<C: Code, K: Keeper, P: Parts<C, K>>(
     ensures goes { GoesIn (make_call_of C.Code.meaning) (world_in K.Reader world.old) (world_in K.Reader world.new) texts.old texts.new roll.old roll.new meter.old meter.new result }
     ensures memory { SameMemory K.Reader world.old world.new }
 {
-    let made = make::<C, K, P>(world, signs, texts, roll, meter);
+    let made = make(world, signs, texts, roll, meter);
     let called = &mut world.called;
     match made {
         Ok(()) => called.clear(),
@@ -59,7 +58,7 @@ fn make_named<C: Code, K: Keeper, P: Parts<C, K>>(
     made
 }
 
-impl<'a, C: Code, K: Keeper, P: Parts<C, K>> CallMaker<C> for Calls<'a, C, K, P> {
+impl<'a, C: Code, K: Keeper> CallMaker<C> for Calls<'a, C, K> {
     ghost world = { λ calls. world_in K.Reader calls.world };
 
     ghost Ready = { λ calls bounds. MayCall K.Reader calls.world bounds };
@@ -71,6 +70,6 @@ impl<'a, C: Code, K: Keeper, P: Parts<C, K>> CallMaker<C> for Calls<'a, C, K, P>
         meter: &mut Meter,
     ) -> Result<(), Refusal> {
         let world = &mut self.world;
-        make_named::<C, K, P>(world, self.signs, texts, roll, meter)
+        make_named(world, self.signs, texts, roll, meter)
     }
 }

@@ -5,49 +5,55 @@ ghost use Rattle.calls.specs.Planned.{PlansIn};
 ghost use Rattle.machine.specs.Functions.{on_others};
 ghost use Rattle.plan.specs.Plans.{Plans};
 
-use crate::parts::Parts;
+use choice_plans::{plan_comparison, plan_name_defined};
+use class_plans::plan_class;
 use code::Code;
 use dictionary::Dictionary;
-use library::Keeper;
+use dictionary_plans::plan_dictionary;
+use library::Reader;
+use library_plans::{plan_delete, plan_names, plan_program_defined, plan_store};
 use machine::{BuiltIn, LibraryFunction, OtherFunction};
+use number_plans::plan_arithmetic;
 use plan::Plan;
 use refusal::Refusal;
 use scan::Parameters;
+use selection_plans::plan_selection;
 use signs::Signs;
+use text_plans::{plan_break, plan_print, plan_text};
 use value::Sources;
 
-fn plan_library<C: Code, K: Keeper, P: Parts<C, K>>(
-    sources: &Sources<'_, C, K>,
+fn plan_library<C: Code, R: Reader>(
+    sources: &Sources<'_, C, R>,
     function: LibraryFunction,
 ) -> Result<Plan, Refusal>
     requires { function ≢ LibraryFunction.Copy }
     ensures { Plans sources.now (library_outcome C.Code.meaning function sources.now.parameters.now) result }
 {
     match function {
-        LibraryFunction::Store => P::plan_store(sources),
-        LibraryFunction::Delete => P::plan_delete(sources),
+        LibraryFunction::Store => plan_store(sources),
+        LibraryFunction::Delete => plan_delete(sources),
         LibraryFunction::Copy => unreachable!(),
-        LibraryFunction::Names => P::plan_names(sources),
-        LibraryFunction::Pdf => P::plan_program_defined(sources),
+        LibraryFunction::Names => plan_names(sources),
+        LibraryFunction::Pdf => plan_program_defined(sources),
     }
 }
 
-fn plan_other<C: Code, K: Keeper, P: Parts<C, K>>(
-    sources: &Sources<'_, C, K>,
+fn plan_other<C: Code, R: Reader>(
+    sources: &Sources<'_, C, R>,
     function: OtherFunction,
 ) -> Result<Plan, Refusal>
     ensures { Plans sources.now (on_others C.Code.meaning function sources.now.parameters.now) result }
 {
     match function {
-        OtherFunction::Ndf => Ok(P::plan_name_defined(sources)),
-        OtherFunction::Ps => Ok(P::plan_print(sources)),
-        OtherFunction::Break => Ok(P::plan_break(sources)),
+        OtherFunction::Ndf => Ok(plan_name_defined(sources)),
+        OtherFunction::Ps => Ok(plan_print(sources)),
+        OtherFunction::Break => Ok(plan_break(sources)),
     }
 }
 
 // The plan of a built-in, other than COPY.
-fn plan_built_in<C: Code, K: Keeper, P: Parts<C, K>>(
-    sources: &Sources<'_, C, K>,
+fn plan_built_in<C: Code, R: Reader>(
+    sources: &Sources<'_, C, R>,
     scratch: &mut [u8],
     function: BuiltIn,
 ) -> Result<Plan, Refusal>
@@ -58,24 +64,24 @@ fn plan_built_in<C: Code, K: Keeper, P: Parts<C, K>>(
     ensures scratch { length scratch.new ≡ length scratch.old }
 {
     match function {
-        BuiltIn::Dictionary(function) => P::plan_dictionary(sources, scratch, function),
-        BuiltIn::Selection(function) => P::plan_selection(sources, function),
-        BuiltIn::Text(function) => P::plan_text(sources, function),
-        BuiltIn::Class(function) => P::plan_class(sources, function),
-        BuiltIn::Arithmetic(function) => P::plan_arithmetic(sources, function),
-        BuiltIn::Comparison(function) => P::plan_comparison(sources, function),
-        BuiltIn::Library(function) => plan_library::<C, K, P>(sources, function),
-        BuiltIn::Other(function) => plan_other::<C, K, P>(sources, function),
+        BuiltIn::Dictionary(function) => plan_dictionary(sources, scratch, function),
+        BuiltIn::Selection(function) => plan_selection(sources, function),
+        BuiltIn::Text(function) => plan_text(sources, function),
+        BuiltIn::Class(function) => plan_class(sources, function),
+        BuiltIn::Arithmetic(function) => plan_arithmetic(sources, function),
+        BuiltIn::Comparison(function) => plan_comparison(sources, function),
+        BuiltIn::Library(function) => plan_library(sources, function),
+        BuiltIn::Other(function) => plan_other(sources, function),
     }
 }
 
 // The plan of a built-in, other than COPY, from the parts of a world.
-pub(crate) fn plan_from<'a, C: Code, K: Keeper, P: Parts<C, K>>(
+pub(crate) fn plan_from<'a, C: Code, R: Reader>(
     signs: &'a Signs<C>,
     parameters: &'a Parameters<'a>,
     dictionary: &'a Dictionary,
     store: &'a [u8],
-    library: &'a K,
+    library: &'a R,
     scratch: &mut [u8],
     function: BuiltIn,
 ) -> Result<Plan, Refusal>
@@ -83,7 +89,7 @@ pub(crate) fn plan_from<'a, C: Code, K: Keeper, P: Parts<C, K>>(
     requires whole { dictionary.now.used ≤ length store.now }
     requires small { length store.now ≤ 32768 }
     requires scratch { length store.now ≤ length scratch.old }
-    ensures plans { PlansIn C.Code.meaning parameters.now dictionary.now store.now (K.Reader.meaning library.now) (outcome_for C.Code.meaning function parameters.now) result }
+    ensures plans { PlansIn C.Code.meaning parameters.now dictionary.now store.now (R.Reader.meaning library.now) (outcome_for C.Code.meaning function parameters.now) result }
     ensures scratch { length scratch.new ≡ length scratch.old }
 {
     let sources = Sources {
@@ -93,5 +99,5 @@ pub(crate) fn plan_from<'a, C: Code, K: Keeper, P: Parts<C, K>>(
         store,
         library,
     };
-    plan_built_in::<C, K, P>(&sources, scratch, function)
+    plan_built_in(&sources, scratch, function)
 }

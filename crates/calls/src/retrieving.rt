@@ -7,10 +7,10 @@ ghost use Rattle.world.specs.Standing.{SameMemory};
 
 use crate::applying::ready_built_in;
 use crate::filling::ready_string;
-use crate::parts::Parts;
 use crate::ready_call::ReadyCall;
 use code::Code;
 use dictionary::Meaning;
+use fetching::retrieve_named;
 use library::Keeper;
 use meter::Meter;
 use refusal::Refusal;
@@ -29,7 +29,7 @@ fn look_up<C: Code, K: Keeper>(
 }
 
 // What a name means, once a name that means nothing was sought as a program.
-fn retrieve<C: Code, K: Keeper, P: Parts<C, K>>(
+fn retrieve<C: Code, K: Keeper>(
     world: &mut World<'_, K>,
     signs: &Signs<C>,
     name: &[u8],
@@ -42,12 +42,12 @@ fn retrieve<C: Code, K: Keeper, P: Parts<C, K>>(
     if let Some(meaning) = look_up(world, signs, name) {
         return Ok(Some(meaning));
     }
-    P::retrieve_named(world, signs, name, meter)?;
+    retrieve_named(world, signs, name, meter)?;
     Ok(look_up(world, signs, name))
 }
 
 // The call of a name with its parameters, up to its last question.
-pub(crate) fn ready_call<C: Code, K: Keeper, P: Parts<C, K>>(
+pub(crate) fn ready_call<C: Code, K: Keeper>(
     world: &mut World<'_, K>,
     signs: &Signs<C>,
     name: &[u8],
@@ -58,9 +58,9 @@ pub(crate) fn ready_call<C: Code, K: Keeper, P: Parts<C, K>>(
     ensures readies { Readies K.Reader C.Code.meaning parameters.now (function_of C.Code.meaning name.now parameters.now) world.old world.new meter.old meter.new result }
     ensures memory { SameMemory K.Reader world.old world.new }
 {
-    match retrieve::<C, K, P>(world, signs, name, meter)? {
+    match retrieve(world, signs, name, meter)? {
         Some(Meaning::BuiltIn(function)) => {
-            ready_built_in::<C, K, P>(world, signs, parameters, function, meter)
+            ready_built_in(world, signs, parameters, function, meter)
         }
         Some(Meaning::String(called)) => ready_string(world, signs, parameters, called, meter),
         None => Err(Refusal::FunctionUndefined),
