@@ -39,6 +39,7 @@ fn ready_planned<C: Code, K: Keeper>(
     ensures memory { SameMemory K.Reader world.old world.new }
 {
     let dictionary = &*world.dictionary;
+    // a slice in a field is lent by `&mut`, or its bytes are not known afterwards
     let store = &mut *world.store;
     let library = &*world.library;
     let plan = plan_from(
@@ -79,6 +80,7 @@ fn ready_copied<C: Code, K: Keeper>(
     })
 }
 
+// A built-in that has parameters enough.
 fn apply<C: Code, K: Keeper>(
     world: &mut World<'_, K>,
     signs: &Signs<C>,

@@ -22,6 +22,7 @@ use signs::Signs;
 use text_plans::{plan_break, plan_print, plan_text};
 use value::Sources;
 
+// The plan of a function on the library, other than COPY.
 fn plan_library<C: Code, R: Reader>(
     sources: &Sources<'_, C, R>,
     function: LibraryFunction,
@@ -38,6 +39,7 @@ fn plan_library<C: Code, R: Reader>(
     }
 }
 
+// The plan of NDF, PS or BREAK.
 fn plan_other<C: Code, R: Reader>(
     sources: &Sources<'_, C, R>,
     function: OtherFunction,

@@ -18,6 +18,7 @@ use scan::Parameters;
 use signs::Signs;
 use world::World;
 
+// What a name means.
 fn look_up<C: Code, K: Keeper>(
     world: &World<'_, K>,
     signs: &Signs<C>,

@@ -12,4 +12,4 @@ returns-in-Library-Copy-clause-readies g c =
 pub returns-in_default-clause-readies : goal.returns-in_default-clause-readies
 returns-in_default-clause-readies g c =
     let other : c.args.function ≢ Library Copy = search rules in
-    readies_alike g.K.Reader _ _ _ _ (comes_to_outcome g.C.Code.meaning c.args.function c.args.parameters.now other) _ _ _ _ _ c.ready_planned.ensures.readies
+    readies_alike g.K.Reader g.C.Code.meaning c.args.parameters.now _ _ (comes_to_outcome g.C.Code.meaning c.args.function c.args.parameters.now other) c.args.world.now c.ready_planned.new.world c.args.meter.now c.ready_planned.new.meter _ c.ready_planned.ensures.readies

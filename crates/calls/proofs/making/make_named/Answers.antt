@@ -12,4 +12,4 @@ set-requires g c =
 pub returns-in-Err-clause-goes : goal.returns-in-Err-clause-goes
 returns-in-Err-clause-goes g c =
     let w = world_in g.K.Reader c.args.world.now in
-    rw c.in-Err.is (goes_refused g.K.Reader g.C.Code.meaning c.args.world.now c.make-made.new.world _ _ _ _ _ _ _ _ (c.set.ensures.text_is ∙ c.name.ensures w) c.in-Err.ensures.ends)
+    rw c.in-Err.is (goes_refused g.K.Reader g.C.Code.meaning c.args.world.now c.make-made.new.world c.args.texts.now c.make-made.new.texts c.args.roll.now c.make-made.new.roll c.args.meter.now c.make-made.new.meter _ _ (c.set.ensures.text_is ∙ c.name.ensures w) c.in-Err.ensures.ends)
