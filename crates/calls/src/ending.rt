@@ -17,7 +17,7 @@ use delivery::{Delivery, Environment};
 use library::Keeper;
 use meter::Meter;
 use performing::perform;
-use plan::Effect;
+use plan::{Effect, Plan};
 use refusal::Refusal;
 use scan::{Roll, ScanTexts};
 use signs::Signs;
@@ -61,21 +61,10 @@ pub(crate) fn end_call<C: Code, K: Keeper>(
     ensures ends { (name : Text) (w : MachineWorld) → let s = state_in texts.old roll.old w in Ends K.Reader name (deliver s (ready_of K.Reader C.Code.meaning (parameters_of s) world.old (calling name (world_in K.Reader world.old)) ready)) world.new texts.old texts.new roll.old roll.new meter.old meter.new result }
     ensures memory { SameMemory K.Reader world.old world.new }
 {
-    let delivery = Delivery::of_call(texts, roll, breaks(ready.plan.effect));
-    delivery.write_value(
-        signs,
-        &environment(world),
-        ready.plan.value,
-        texts,
-        roll,
-        meter,
-    )?;
-    perform(
-        world,
-        signs,
-        &delivery.parameters(texts, roll),
-        ready.plan.effect,
-    );
+    let Plan { value, effect } = ready.plan;
+    let delivery = Delivery::of_call(texts, roll, breaks(effect));
+    delivery.write_value(signs, &environment(world), value, texts, roll, meter)?;
+    perform(world, signs, &delivery.parameters(texts, roll), effect);
     delivery.close_call(texts, roll);
     if ready.numbered {
         meter.take_number();
