@@ -1,5 +1,5 @@
 // How the text of an area is read and written.
-ghost use Rattle.std.specs.Prelude.{◌≡◌, ◌≤◌, ◌++◌, [], length};
+ghost use Rattle.std.specs.Prelude.{◌≡◌, ◌≤◌, ◌++◌, [], length, take};
 ghost use Rattle.text_area.specs.Shown.{text_of, HasRoom, Becomes};
 
 use crate::text_area::TextArea;
@@ -12,6 +12,17 @@ impl<'a> TextArea<'a> {
         ensures loan { result.area.ghost_name ≡ area.entry.ghost_name }
     {
         TextArea { area, len: 0 }
+    }
+
+    // The text that the first bytes of an area are.
+    pub fn with_text(area: &'a mut [u8], len: usize) -> TextArea<'a>
+        requires { len ≤ length area.old }
+        ensures text { text_of result ≡ take len area.old }
+        ensures len { result.len ≡ len }
+        ensures size { length result.area.now ≡ length area.old }
+        ensures loan { result.area.ghost_name ≡ area.entry.ghost_name }
+    {
+        TextArea { area, len }
     }
 
     pub fn text(&self) -> &[u8]

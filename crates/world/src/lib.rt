@@ -3,7 +3,6 @@
 #![tactic(auto)]
 
 mod lending;
-mod performing;
 mod world;
 
 pub use world::World;
