@@ -42,6 +42,18 @@ impl Dictionary {
         }
     }
 
+    // How many classes there would be with one of that name.
+    pub fn classes_after(&self, store: &[u8], name: &[u8]) -> usize
+        requires { self.now.used ≤ length store.now }
+        ensures { (members : List Bool) → result ≡ length (with_class name.now members (classes_in self.now store.now)) }
+    {
+        let classes = self.classes.len();
+        match self.find_class(store, name) {
+            Some(_) => classes,
+            None => classes + 1,
+        }
+    }
+
     // What there would be with a class of that name.
     pub fn after_define_class(&self, store: &[u8], name: &[u8]) -> ClassNeeds
         requires { self.now.used ≤ length store.now }

@@ -1,0 +1,4 @@
+pub mod Defined
+pub mod Passed
+pub mod Read
+pub mod Runs
