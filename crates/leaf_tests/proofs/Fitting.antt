@@ -1,5 +1,5 @@
 -- What is asked before a dictionary is changed.
-use Rattle.std.proofs.Common.{◌≡◌, ℕ, ◌≤◌, List, length, replicate, sym, ap, ◌∙◌, arith}
+use Rattle.std.proofs.Common.{◌≡◌, ℕ, ◌<◌, ◌≤◌, ◌^◌, List, length, replicate, sym, ap, ◌∙◌, arith}
 use Rattle.std.proofs.lemmas.List.{length-replicate}
 use Rattle.machine.specs.Texts.{Text, Code}
 use Rattle.machine.specs.Dictionary.{Meaning, define, bytes_in, new_dictionary}
@@ -11,8 +11,8 @@ use Rattle.dictionary.specs.Needing.{Takes}
 use Rattle.dictionary.proofs.Sizes.{bytes_used}
 
 -- what is needed is there
-pub room_fits : (code : Code) (d : Dictionary) (store items : List ℕ) (n : Text) (m : Meaning) (needs : Needs) (most size : ℕ) → store ≡ items → Takes needs (define code n m (dictionary_in d items)) → needs.names ≤ most → most ≤ d.most_rows → needs.bytes ≤ size → length store ≡ size → Room d store (define code n m (dictionary_in d store))
-room_fits code d store items n m needs most size same takes names memory bytes size_is =
+pub room_fits : (code : Code) (d : Dictionary) (store items : List ℕ) (n : Text) (m : Meaning) (needs : Needs) (most size : ℕ) → store ≡ items → Takes needs (define code n m (dictionary_in d items)) → needs.names ≤ most → most ≤ d.most_rows → needs.bytes ≤ size → length store ≡ size → length store < 2 ^ 63 → Room d store (define code n m (dictionary_in d store))
+room_fits code d store items n m needs most size same takes names memory bytes size_is small =
     rw same (record {
       names = omega (arith, takes.names);
       bytes = omega (arith, takes.bytes, ap length same);

@@ -16,7 +16,7 @@ fn fill_names<C: Code + Drop>(rt: &impl Abort, heap: Global, code: C) -> Result<
         names: 129,
         bytes: 385,
     };
-    assert_eq!(rt; stored.needs(&[200], 0), Some(needs));
+    assert_eq!(rt; stored.needs(&[200], 0), needs);
     assert!(rt; !stored.define(&[200], b""));
     assert!(rt; stored.define(&[7], b"c"));
     assert_eq!(rt; stored.bytes(), 383);
@@ -46,7 +46,7 @@ fn a_body_fills_the_store(rt: HostRuntime) -> Result<(), Fail> {
         names: 1,
         bytes: 32_769,
     };
-    assert_eq!(rt; stored.needs(b"A", longer.len()), Some(needs));
+    assert_eq!(rt; stored.needs(b"A", longer.len()), needs);
     assert!(rt; !stored.define(b"A", longer.as_slice()));
     assert!(rt; stored.define(b"A", body.as_slice()));
     assert!(rt; !stored.define(b"A", longer.as_slice()));
@@ -67,7 +67,12 @@ fn nothing_fits_a_limit_of_0(rt: HostRuntime) -> Result<(), Fail> {
     let add = BuiltIn::Arithmetic(ArithmeticFunction::Ad);
     let mut none = Stored::new(rt.alloc(), Ascii, 0, 0)?;
     assert_eq!(rt; none.built_in(b"AD"), Some(add));
-    assert_eq!(rt; none.needs(b"", 0), Some(Needs { names: 1, bytes: 0 }));
+    assert_eq!(rt; none.needs(b"", 0), Needs { names: 1, bytes: 0 });
+    let endless = Needs {
+        names: 1,
+        bytes: usize::MAX,
+    };
+    assert_eq!(rt; none.needs(b"AB", usize::MAX), endless);
     assert!(rt; !none.define(b"", b""));
     assert!(rt; !none.define(b"AD", b""));
     assert_eq!(rt; none.built_in(b"AD"), Some(add));

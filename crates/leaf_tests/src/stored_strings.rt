@@ -67,15 +67,13 @@ impl<C: Code + Drop> Stored<C> {
             return false;
         };
         let rest = self.dictionary.rest(self.store.as_slice(), string).len();
-        match self.needs(name, rest) {
-            Some(needs) if self.fits(needs) => {
-                let store = self.store.as_mut_slice();
-                self.dictionary
-                    .define_copy(&self.signs, store, name, string);
-                true
-            }
-            _ => false,
+        if !self.fits(self.needs(name, rest)) {
+            return false;
         }
+        let store = self.store.as_mut_slice();
+        self.dictionary
+            .define_copy(&self.signs, store, name, string);
+        true
     }
 
     // How many matches there were.

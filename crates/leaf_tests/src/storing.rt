@@ -1,5 +1,5 @@
 // What is done to a dictionary and its store, each after the question whether it fits.
-ghost use Rattle.std.specs.Prelude.{◌≡◌, ◌≤◌, true, length, vec_len, vec_items, IfSome, MatchBool};
+ghost use Rattle.std.specs.Prelude.{◌≡◌, ◌≤◌, true, length, vec_len, vec_items, MatchBool};
 ghost use Rattle.machine.specs.Texts.{Code as AnyCode};
 ghost use Rattle.machine.specs.Dictionary.{Meaning, body_of, string, built_in, new_string, define, erase};
 ghost use Rattle.dictionary.specs.Meant.{dictionary_in};
@@ -11,9 +11,6 @@ use dictionary::{Dictionary, Needs};
 use machine::BuiltIn;
 use signs::read_signs;
 use std::alloc::{AllocError, Global};
-
-// No name and body of a test are longer than this together.
-const LONGEST: usize = 65_536;
 
 impl<C: Code + Drop> Stored<C> {
     pub(crate) fn new(
@@ -39,16 +36,11 @@ impl<C: Code + Drop> Stored<C> {
     }
 
     // What there would be if the name meant something with that body.
-    pub(crate) fn needs(&self, name: &[u8], body: usize) -> Option<Needs>
-        ensures { IfSome result (λ needs. (code : AnyCode) (m : Meaning) → length (body_of m) ≡ body → Takes needs (define code name.now m (dictionary_in self.now.dictionary (vec_items self.now.store)))) }
+    pub(crate) fn needs(&self, name: &[u8], body: usize) -> Needs
+        ensures { (code : AnyCode) (m : Meaning) → length (body_of m) ≡ body → Takes result (define code name.now m (dictionary_in self.now.dictionary (vec_items self.now.store))) }
     {
-        if name.len() > LONGEST || body > LONGEST {
-            return None;
-        }
-        Some(
-            self.dictionary
-                .after_define(self.store.as_slice(), name, body),
-        )
+        self.dictionary
+            .after_define(self.store.as_slice(), name, body)
     }
 
     pub(crate) fn fits(&self, needs: Needs) -> bool
@@ -61,30 +53,26 @@ impl<C: Code + Drop> Stored<C> {
     pub(crate) fn define(&mut self, name: &[u8], body: &[u8]) -> bool
         ensures { MatchBool result (dictionary_in self.new.dictionary (vec_items self.new.store) ≡ define C.Code.meaning name.now (string (new_string body.now)) (dictionary_in self.old.dictionary (vec_items self.old.store))) (self.new ≡ self.old) }
     {
-        match self.needs(name, body.len()) {
-            Some(needs) if self.fits(needs) => {
-                let store = self.store.as_mut_slice();
-                self.dictionary
-                    .define_string(&self.signs, store, name, body);
-                true
-            }
-            _ => false,
+        if !self.fits(self.needs(name, body.len())) {
+            return false;
         }
+        let store = self.store.as_mut_slice();
+        self.dictionary
+            .define_string(&self.signs, store, name, body);
+        true
     }
 
     // The name becomes a copied built-in, if it fits.
     pub(crate) fn copy_built_in(&mut self, name: &[u8], function: BuiltIn) -> bool
         ensures { MatchBool result (dictionary_in self.new.dictionary (vec_items self.new.store) ≡ define C.Code.meaning name.now (built_in function) (dictionary_in self.old.dictionary (vec_items self.old.store))) (self.new ≡ self.old) }
     {
-        match self.needs(name, 0) {
-            Some(needs) if self.fits(needs) => {
-                let store = self.store.as_mut_slice();
-                self.dictionary
-                    .define_built_in(&self.signs, store, name, function);
-                true
-            }
-            _ => false,
+        if !self.fits(self.needs(name, 0)) {
+            return false;
         }
+        let store = self.store.as_mut_slice();
+        self.dictionary
+            .define_built_in(&self.signs, store, name, function);
+        true
     }
 
     pub(crate) fn erase(&mut self, name: &[u8])

@@ -1,5 +1,5 @@
 // The scan of a whole text.
-ghost use Rattle.std.specs.Prelude.{◌≤◌, length};
+ghost use Rattle.std.specs.Prelude.{◌≡◌, ◌≤◌, ℕ, List, length};
 ghost use Rattle.machine.specs.declared.amounts.Amounts.{Amounts};
 ghost use Rattle.machine.specs.World.{World};
 ghost use Rattle.machine.specs.Scan.{make_call as make_call_of, step as step_of, scanning};
@@ -23,6 +23,8 @@ pub trait CallMaker<C: Code> {
     ghost world: { Self → World };
     // it has the memory that calls may need within these bounds
     ghost Ready: { Self → Amounts → Type 0 };
+    // the names of the loans that it holds
+    ghost loans: { Self → List ℕ };
 
     // The innermost call is made; its `>` is dropped already.
     fn make_call(
@@ -34,7 +36,8 @@ pub trait CallMaker<C: Code> {
         requires fits { Fits texts.old roll.old meter.old }
         requires ready { Ready self.old meter.old.bounds }
         ensures goes { GoesIn (make_call_of C.Code.meaning) (world self.old) (world self.new) texts.old texts.new roll.old roll.new meter.old meter.new result }
-        ensures ready { Ready self.new meter.old.bounds };
+        ensures ready { Ready self.new meter.old.bounds }
+        ensures loans { loans self.new ≡ loans self.old };
 }
 
 // A step, where the right text is not empty.
@@ -50,6 +53,7 @@ fn step<C: Code, M: CallMaker<C>>(
     requires ready { M.Ready maker.old meter.old.bounds }
     ensures goes { GoesIn (step_of C.Code.meaning) (M.world maker.old) (M.world maker.new) texts.old texts.new roll.old roll.new meter.old meter.new result }
     ensures ready { M.Ready maker.new meter.old.bounds }
+    ensures loans { M.loans maker.new ≡ M.loans maker.old }
 {
     match rule_at_front(signs, roll.is_inside(), texts.right()) {
         Rule::Close => {
@@ -73,6 +77,7 @@ pub fn scan_text<C: Code, M: CallMaker<C>>(
     requires allowed { meter.old.bounds.steps ≤ 1000000 }
     ensures goes { GoesIn (scanning C.Code.meaning 1000000 0) (M.world maker.old) (M.world maker.new) texts.old texts.new roll.old roll.new meter.old meter.new result }
     ensures ready { M.Ready maker.new meter.old.bounds }
+    ensures loans { M.loans maker.new ≡ M.loans maker.old }
 {
     let mut steps = 0usize;
     loop {

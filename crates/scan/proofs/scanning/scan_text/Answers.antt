@@ -33,4 +33,5 @@ loop-steps-preserved g c =
     let bounds = asked.bounds_stay ∙ here.bounds_stay in (
       at_next g.C.Code.meaning _ _ _ _ _ _ _ _ _ here c.requires.allowed some c.put.new.self asked _ _ _ _ _ (rw (← c.in_ok-step.was) c.step.ensures.goes),
       subst (g.M.CallMaker.Ready c.step.new.maker) bounds c.step.ensures.ready,
+      c.step.ensures.loans ∙ c.loop-steps.invariant.2,
     )

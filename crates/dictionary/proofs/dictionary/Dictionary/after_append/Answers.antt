@@ -10,8 +10,8 @@ pub returns : goal.returns
 returns c store name text whole first size =
     let d = c.args.self.now in
     let s = string_in c.args.string store in
-    let taken = row_taken d store name (place_of c.args.string) (string (appended text s)) whole (record { first = first; at = c.requires.place }) in
+    let taken = row_taken d store name (place_of c.args.string) (string (appended text s)) whole (record { first = first; at = c.requires }) in
     record {
       names = c.len.ensures ∙ taken.names;
-      bytes = omega (arith, taken.bytes, length-append s.body text, body_length d store c.args.string whole c.requires.place);
+      bytes = omega (arith, c.saturating_add.ensures, taken.bytes, length-append s.body text, body_length d store c.args.string whole c.requires);
     }

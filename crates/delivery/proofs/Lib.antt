@@ -1,0 +1,4 @@
+mod Worlds
+mod Needs
+mod Fronts
+pub mod Delivering
