@@ -42,6 +42,23 @@ pub fn written_length(value: i64) -> usize
     if value < 0 { digits + 1 } else { digits }
 }
 
+// How many bytes a count takes.
+pub fn count_length(count: usize) -> usize
+    ensures len { result ≡ length (decimal count) }
+    ensures short { result ≤ 20 }
+{
+    digit_count(count as u64)
+}
+
+// Writes a count at the beginning of `out`, and says how many bytes it takes.
+pub fn write_count<C: Code>(signs: &Signs<C>, count: usize, out: &mut [u8]) -> usize
+    requires { length (decimal count) ≤ length out.old }
+    ensures len { result ≡ length (decimal count) }
+    ensures after { out.new ≡ spelled C.Code.meaning (decimal count) ++ drop result out.old }
+{
+    write_digits(signs, count as u64, out)
+}
+
 // Writes an integer at the beginning of `out`, and says how many bytes it takes.
 pub fn write_integer<C: Code>(signs: &Signs<C>, value: i64, out: &mut [u8]) -> usize
     requires { length (signed_decimal value) ≤ length out.old }

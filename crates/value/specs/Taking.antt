@@ -7,7 +7,7 @@ use Rattle.dictionary.specs.Finding.{RowAt}
 use Rattle.dictionary.specs.Strings.{place_of}
 use Rattle.value.specs.declared.sources.Sources.{Sources}
 use Rattle.value.specs.declared.value.Value.{Value}
-use Rattle.value.specs.declared.value.Value.TheVariants.{Nothing, Parameter, Front, Behind, Reversed, Lowered, Number, Passed, Filled, Names}
+use Rattle.value.specs.declared.value.Value.TheVariants.{Nothing, Parameter, Front, Behind, Reversed, Lowered, Number, Length, Passed, Filled, Names}
 use Rattle.value.specs.Texts.{value_text}
 
 -- its text
@@ -23,6 +23,7 @@ Stands sources (Behind n len) = ⊤
 Stands sources (Reversed n) = ⊤
 Stands sources (Lowered n) = ⊤
 Stands sources (Number z) = ⊤
+Stands sources (Length n) = ⊤
 Stands sources (Passed s len) = RowAt sources.dictionary.now (place_of s)
 Stands sources (Filled s created) = RowAt sources.dictionary.now (place_of s)
 Stands sources (Names p) = ⊤

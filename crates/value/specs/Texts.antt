@@ -1,5 +1,5 @@
 -- The text of a value. Assumes nothing.
-use Rattle.std.specs.Prelude.{ℕ, ◌-◌, ◌^◌, ◌==◌, cond, List, [], ◌∷◌, map, reverse, take, drop, min, Some, None, Option}
+use Rattle.std.specs.Prelude.{ℕ, ◌-◌, ◌^◌, ◌==◌, cond, List, [], ◌∷◌, map, reverse, length, take, drop, min, pos, Some, None, Option}
 use Rattle.library.specs.Meaning.{Library, NamedString, program_at, strings_of}
 use Rattle.machine.specs.Texts.{Text, Code, without_marks}
 use Rattle.machine.specs.Numbers.{written}
@@ -9,7 +9,7 @@ use Rattle.machine.specs.Functions.{filled, four_digits}
 use Rattle.machine.specs.Libraries.{with_commas}
 use Rattle.dictionary.specs.Strings.{string_in}
 use Rattle.value.specs.declared.value.Value.{Value}
-use Rattle.value.specs.declared.value.Value.TheVariants.{Nothing, Parameter, Front, Behind, Reversed, Lowered, Number, Passed, Filled, Names}
+use Rattle.value.specs.declared.value.Value.TheVariants.{Nothing, Parameter, Front, Behind, Reversed, Lowered, Number, Length, Passed, Filled, Names}
 
 -- a created number, or nothing where there is none
 abbrev pub created_text : Code → Option ℕ → Text
@@ -29,6 +29,7 @@ value_text code ps store library (Behind n len) = drop len (parameter n ps)
 value_text code ps store library (Reversed n) = reverse (parameter n ps)
 value_text code ps store library (Lowered n) = map code.lower (parameter n ps)
 value_text code ps store library (Number z) = written code z
+value_text code ps store library (Length n) = written code (pos (length (parameter n ps)))
 value_text code ps store library (Passed s len) = without_marks code (take len (rest_of (string_in s store)))
 value_text code ps store library (Filled s created) = filled code ps (created_text code created) (rest_of (string_in s store))
 value_text code ps store library (Names p) = with_commas (code.named 44) (names_of library p)

@@ -10,7 +10,7 @@ use crate::taking::{behind, front};
 use crate::value::Value;
 use code::Code;
 use library::Reader;
-use number::written_length;
+use number::{count_length, written_length};
 use selection::length_without_marks;
 
 impl Value {
@@ -27,6 +27,7 @@ impl Value {
             Value::Reversed(n) => sources.parameter(n).len(),
             Value::Lowered(n) => sources.parameter(n).len(),
             Value::Number(number) => written_length(number),
+            Value::Length(n) => count_length(sources.parameter(n).len()),
             Value::Passed { string, len } => {
                 length_without_marks(sources.signs, front(sources.rest(string), len))
             }

@@ -22,6 +22,8 @@ pub enum Value {
     // a parameter in lower case
     Lowered(usize),
     Number(i64),
+    // how many bytes a parameter has
+    Length(usize),
     // the first bytes of what is left of a string, without marks
     Passed {
         string: StringPlace,

@@ -1,5 +1,5 @@
 // Writing values.
-ghost use Rattle.std.specs.Prelude.{◌≡◌, length, map, reverse};
+ghost use Rattle.std.specs.Prelude.{◌≡◌, length, map, reverse, decimal, pos};
 ghost use Rattle.std.specs.Fmt.{signed_decimal};
 ghost use Rattle.machine.specs.Texts.{without_marks};
 ghost use Rattle.machine.specs.Numbers.{written};
@@ -12,7 +12,7 @@ use crate::taking::{behind, front};
 use crate::value::Value;
 use code::Code;
 use library::Reader;
-use number::write_integer;
+use number::{write_count, write_integer};
 use selection::copy_without_marks;
 use signs::Signs;
 
@@ -41,6 +41,13 @@ fn write_number<C: Code>(signs: &Signs<C>, number: i64, out: &mut [u8])
     write_integer(signs, number, out);
 }
 
+fn write_length<C: Code>(signs: &Signs<C>, len: usize, out: &mut [u8])
+    requires { length out.old ≡ length (decimal len) }
+    ensures { out.new ≡ written C.Code.meaning (pos len) }
+{
+    write_count(signs, len, out);
+}
+
 fn write_without_marks<C: Code>(signs: &Signs<C>, text: &[u8], out: &mut [u8])
     requires { length out.old ≡ length (without_marks C.Code.meaning text.now) }
     ensures { out.new ≡ without_marks C.Code.meaning text.now }
@@ -67,6 +74,7 @@ impl Value {
             Value::Reversed(n) => write_reversed(sources.parameter(n), out),
             Value::Lowered(n) => write_lowered(sources.signs, sources.parameter(n), out),
             Value::Number(number) => write_number(sources.signs, number, out),
+            Value::Length(n) => write_length(sources.signs, sources.parameter(n).len(), out),
             Value::Passed { string, len } => {
                 write_without_marks(sources.signs, front(sources.rest(string), len), out)
             }

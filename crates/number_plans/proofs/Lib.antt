@@ -1,0 +1,2 @@
+mod Attempts
+mod Results
