@@ -1,0 +1,3 @@
+mod Capped
+mod Strings
+mod Sought
