@@ -1,5 +1,5 @@
 // Is there room for what an effect of some kind is to leave?
-ghost use Rattle.std.specs.Prelude.{◌≡◌, ◌++◌, List, Bool, length};
+ghost use Rattle.std.specs.Prelude.{◌≡◌, ◌++◌, List, Bool, length, take};
 ghost use Rattle.machine.specs.Texts.{Code as AnyCode};
 ghost use Rattle.machine.specs.Dictionary.{Meaning, body_of, define, change, with_class, with_classes};
 ghost use Rattle.machine.specs.Strings.{appended};
@@ -8,7 +8,6 @@ ghost use Rattle.machine.specs.World.{World as AnyWorld, names_and_store, store_
 ghost use Rattle.dictionary.specs.Meant.{classes_in, dictionary_in};
 ghost use Rattle.dictionary.specs.Finding.{Standing};
 ghost use Rattle.dictionary.specs.Strings.{place_of, string_in};
-ghost use Rattle.text_area.specs.Shown.{text_of};
 ghost use Rattle.world.specs.Standing.{Ready};
 ghost use Rattle.asking.specs.Answers.{Answers};
 
@@ -78,8 +77,8 @@ pub(crate) fn ask_lines<C: Code, K: Keeper>(
     meter: &mut Meter,
 ) -> Result<(), Refusal>
     requires ready { Ready K.Reader world.now meter.old.bounds }
-    ensures { (v : AnyWorld) → v.printed ≡ text_of world.now.printed ++ lines C.Code.meaning.end_of_line 132 (p1 parameters.now) → Answers meter.old meter.new result print_only v }
+    ensures { (v : AnyWorld) → v.printed ≡ take world.now.printed world.now.print.now ++ lines C.Code.meaning.end_of_line 132 (p1 parameters.now) → Answers meter.old meter.new result print_only v }
 {
     let more = lines_length(signs.end_of_line, parameters.get(0));
-    ask_print(world.printed.len().saturating_add(more), meter)
+    ask_print(world.printed.saturating_add(more), meter)
 }

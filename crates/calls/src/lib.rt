@@ -3,7 +3,6 @@
 #![tactic(auto)]
 
 mod applying;
-mod calls;
 mod ending;
 mod filling;
 mod making;
@@ -11,4 +10,4 @@ mod planning;
 mod ready_call;
 mod retrieving;
 
-pub use calls::Calls;
+pub use making::make_call;

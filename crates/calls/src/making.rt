@@ -1,19 +1,18 @@
 // The call of a function, from its name to its end.
-ghost use Rattle.std.specs.Prelude.{◌≡◌, ◌≤◌, length};
+ghost use Rattle.std.specs.Prelude.{◌≡◌, ◌≤◌, length, take};
 ghost use Rattle.calls.specs.Ends.{Ends, MayCall};
 ghost use Rattle.machine.specs.Scan.{called_name, make_call as make_call_of};
 ghost use Rattle.scan.specs.Making.{Fits, GoesIn};
 ghost use Rattle.scan.specs.Standing.{state_in};
 ghost use Rattle.world.specs.Standing.{world_in, SameMemory};
 
-use crate::calls::Calls;
 use crate::ending::end_call;
 use crate::retrieving::ready_call;
 use code::Code;
 use library::Keeper;
 use meter::Meter;
 use refusal::Refusal;
-use scan::{CallMaker, Roll, ScanTexts};
+use scan::{Roll, ScanTexts};
 use signs::Signs;
 use world::World;
 
@@ -36,8 +35,17 @@ fn make<C: Code, K: Keeper>(
     end_call(world, signs, ready, texts, roll, meter)
 }
 
-// The innermost call is made. Where it is refused, its name is kept.
-fn make_named<C: Code, K: Keeper>(
+// The called name is kept.
+fn keep_name(area: &mut [u8], name: &[u8])
+    requires { length name.now ≤ length area.old }
+    ensures kept { take (length name.now) area.new ≡ name.now }
+    ensures size { length area.new ≡ length area.old }
+{
+    area[..name.len()].copy_from_slice(name);
+}
+
+// The innermost call is made; its `>` is dropped already. Where it is refused, its name is kept.
+pub fn make_call<C: Code, K: Keeper>(
     world: &mut World<'_, K>,
     signs: &Signs<C>,
     texts: &mut ScanTexts<'_>,
@@ -50,26 +58,14 @@ fn make_named<C: Code, K: Keeper>(
     ensures memory { SameMemory K.Reader world.old world.new }
 {
     let made = make(world, signs, texts, roll, meter);
-    let called = &mut world.called;
     match made {
-        Ok(()) => called.clear(),
-        Err(_) => called.set(roll.name(texts)),
+        Ok(()) => world.called = 0,
+        Err(_) => {
+            let name = roll.name(texts);
+            let area = &mut *world.called_name;
+            keep_name(area, name);
+            world.called = name.len();
+        }
     }
     made
-}
-
-impl<'a, C: Code, K: Keeper> CallMaker<C> for Calls<'a, C, K> {
-    ghost world = { λ calls. world_in K.Reader calls.world };
-
-    ghost Ready = { λ calls bounds. MayCall K.Reader calls.world bounds };
-
-    fn make_call(
-        &mut self,
-        texts: &mut ScanTexts<'_>,
-        roll: &mut Roll,
-        meter: &mut Meter,
-    ) -> Result<(), Refusal> {
-        let world = &mut self.world;
-        make_named(world, self.signs, texts, roll, meter)
-    }
 }

@@ -14,7 +14,7 @@ use Rattle.scan.specs.Meeting.{Meets}
 use Rattle.scan.proofs.Meetings.{on_passed, on_short}
 use Rattle.value.specs.declared.sources.Sources.{Sources}
 use Rattle.value.specs.declared.value.Value.{Value}
-use Rattle.value.specs.declared.value.Value.TheVariants.{Nothing, Parameter, Front, Behind, Reversed, Lowered, Length, Number, Passed as PassedBytes, Filled, Names}
+use Rattle.value.specs.declared.value.Value.TheVariants.{Nothing, Parameter, Front, Behind, Reversed, Lowered, Number, Length, Passed as PassedBytes, Filled, Names}
 use Rattle.value.specs.Taking.{Stands}
 use Rattle.delivery.specs.Deliveries.{StandsIn, value_of, need_of}
 
@@ -26,8 +26,8 @@ stands_there s (Front n len) h = h
 stands_there s (Behind n len) h = h
 stands_there s (Reversed n) h = h
 stands_there s (Lowered n) h = h
-stands_there s (Length n) h = h
 stands_there s (Number z) h = h
+stands_there s (Length n) h = h
 stands_there s (PassedBytes p len) h = h
 stands_there s (Filled p created) h = h
 stands_there s (Names p) h = h

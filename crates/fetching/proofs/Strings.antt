@@ -8,7 +8,8 @@ use Rattle.machine.specs.Texts.{Code, proper_name, proper_body}
 use Rattle.machine.specs.Faults.{names?, store?, foreign_text}
 use Rattle.machine.specs.Chain.{Run, give, fault, ask, ◌>>=◌, walk}
 use Rattle.machine.specs.ChainLaws.{and_then}
-use Rattle.machine.specs.Dictionary.{Dictionary, string, new_string, define, names_in, bytes_in}
+use Rattle.machine.specs.Dictionary.{string, new_string, define, names_in, bytes_in}
+use Rattle.machine.specs.Dictionary as machine
 use Rattle.machine.specs.World.{World, with_dictionary}
 use Rattle.machine.specs.Libraries.{fetching}
 use Rattle.machine.proofs.Walking.{walk_of_bind}
@@ -16,7 +17,7 @@ use Rattle.meter.specs.declared.meter.Meter.{Meter}
 use Rattle.meter.specs.declared.question.Question.TheVariants.{Names, Store}
 use Rattle.meter.specs.Metered.{tally, Passed, Short}
 use Rattle.dictionary.specs.declared.amounts.Needs.{Needs}
-use Rattle.dictionary.specs.declared.dictionary.Dictionary.{Dictionary as Processed}
+use Rattle.dictionary.specs.declared.dictionary.Dictionary.{Dictionary}
 use Rattle.dictionary.specs.Meant.{dictionary_in}
 use Rattle.dictionary.specs.Editing.{Kept, Room}
 use Rattle.dictionary.specs.Needing.{Takes}
@@ -28,16 +29,16 @@ use Rattle.scan.proofs.Meetings.{on_passed, on_short, on_err}
 -- ONE STRING
 
 -- are its name and its body proper?
-abbrev pub proper : Code → NamedString → Bool
+abbrev proper : Code → NamedString → Bool
 proper code s = proper_name code s.name && proper_body code s.body
 
 -- the dictionary with it
-abbrev pub defined : Code → NamedString → Dictionary → Dictionary
+abbrev defined : Code → NamedString → machine.Dictionary → machine.Dictionary
 defined code s before = define code s.name (string (new_string s.body)) before
 
 -- what it needs was told; the names are asked, and then the bytes
-module _ (code : Code) (s : NamedString) (before : Dictionary) (needs : Needs) (takes : Takes needs (defined code s before)) (m m' m'' : Meter) where
-  abbrev d : Dictionary
+module _ (code : Code) (s : NamedString) (before : machine.Dictionary) (needs : Needs) (takes : Takes needs (defined code s before)) (m m' m'' : Meter) where
+  abbrev d : machine.Dictionary
   d = defined code s before
 
   module _ (small : m.bounds.store ≤ 32768) (names : Passed Names needs.names m m') (bytes : Passed Store needs.bytes m' m'') where
@@ -45,7 +46,7 @@ module _ (code : Code) (s : NamedString) (before : Dictionary) (needs : Needs) (
     all_bytes = passes_uncapped Store needs.bytes (bytes_in d) takes.bytes m' m'' (rw names.bounds_stay (omega arith)) bytes
 
     -- there is room for it
-    pub room_for_string : (e : Processed) (store : List ℕ) → Suffices e store m.bounds → Room e store d
+    pub room_for_string : (e : Dictionary) (store : List ℕ) → Suffices e store m.bounds → Room e store d
     room_for_string e store h = record {
       names = omega (arith, names.fits, takes.names, h.names);
       bytes = omega (arith, all_bytes.fits, ap (λ (b : Amounts). b.store) names.bounds_stay, h.bytes);
@@ -82,7 +83,7 @@ pub record Leads (m m' : Meter) (run run' : Run World World) : Type 0 where
   pub same : walk m.bounds (tally m) run ≡ walk m'.bounds (tally m') run'
 
 -- the first string, and the others behind it
-pub first_and_others : (code : Code) (s : NamedString) (ss : List NamedString) (w : World) → fetching code (s ∷ ss) w ≡ fetching code (s ∷ []) w >>= fetching code ss
+first_and_others : (code : Code) (s : NamedString) (ss : List NamedString) (w : World) → fetching code (s ∷ ss) w ≡ fetching code (s ∷ []) w >>= fetching code ss
 first_and_others code s ss w = go (proper code s)
   where
     go : (b : Bool) → cond b (ask names? (names_in (defined code s w.dictionary)) w (ask store? (bytes_in (defined code s w.dictionary)) w (fetching code ss (with_dictionary (defined code s w.dictionary) w)))) (fault foreign_text w)
@@ -91,7 +92,7 @@ first_and_others code s ss w = go (proper code s)
     go false = refl
 
 module _ (code : Code) (s : NamedString) (ss : List NamedString) (w after left : World) (m m' : Meter) where
-  pub first_leads : Meets m m' (Ok tt) after left (fetching code (s ∷ []) w) → Leads m m' (fetching code (s ∷ ss) w) (fetching code ss after)
+  first_leads : Meets m m' (Ok tt) after left (fetching code (s ∷ []) w) → Leads m m' (fetching code (s ∷ ss) w) (fetching code ss after)
   first_leads h = record {
     bounds_stay = h.bounds_stay;
     same =
@@ -100,22 +101,22 @@ module _ (code : Code) (s : NamedString) (ss : List NamedString) (w after left :
         ∙ ap (λ b. walk b (tally m') (fetching code ss after)) (sym h.bounds_stay);
   }
 
-  pub first_stops : (e : Refusal) → Meets m m' (Err e) after left (fetching code (s ∷ []) w) → Meets m m' (Err e) after left (fetching code (s ∷ ss) w)
+  first_stops : (e : Refusal) → Meets m m' (Err e) after left (fetching code (s ∷ []) w) → Meets m m' (Err e) after left (fetching code (s ∷ ss) w)
   first_stops e h = subst (Meets m m' (Err e) after left) (sym (first_and_others code s ss w)) (on_err m m' m' (Err e) after after left left (fetching code (s ∷ []) w) (fetching code ss) e h)
 
 -- Strings were defined, and others are left: the questions go on from there, and the memory is as it was.
-pub record Under (code : Code) (d e : Processed) (store after : List ℕ) (strings left : List NamedString) (m m' : Meter) : Type 0 where
+pub record Under (code : Code) (d e : Dictionary) (store after : List ℕ) (strings left : List NamedString) (m m' : Meter) : Type 0 where
   pub leads : (w : World) → Leads m m' (fetching code strings (with_dictionary (dictionary_in d store) w)) (fetching code left (with_dictionary (dictionary_in e after) w))
   pub kept : Kept d e after
   pub suffices : Suffices e after m'.bounds
 
 -- some world
-abbrev empty_world : Dictionary → World
+abbrev empty_world : machine.Dictionary → World
 empty_world d = record { dictionary = d; library = record { programs = []; space = no_space; locked = false }; printed = []; called = [] }
 
-module _ (code : Code) (d e : Processed) (store after : List ℕ) (strings left : List NamedString) (m m' : Meter) (u : Under code d e store after strings left m m') where
+module _ (code : Code) (d e : Dictionary) (store after : List ℕ) (strings left : List NamedString) (m m' : Meter) (u : Under code d e store after strings left m m') where
   -- what is left is met from the first string on
-  pub under_leads : (m'' : Meter) (r : Result (Unit {0}) Refusal) (end stands w : World) → Meets m' m'' r end stands (fetching code left (with_dictionary (dictionary_in e after) w)) →
+  under_leads : (m'' : Meter) (r : Result (Unit {0}) Refusal) (end stands w : World) → Meets m' m'' r end stands (fetching code left (with_dictionary (dictionary_in e after) w)) →
       Meets m m'' r end stands (fetching code strings (with_dictionary (dictionary_in d store) w))
   under_leads m'' r end stands w h = record { bounds_stay = h.bounds_stay ∙ (u.leads w).bounds_stay; as_defined = h.as_defined ∙ sym (u.leads w).same }
 
@@ -131,7 +132,7 @@ module _ (code : Code) (d e : Processed) (store after : List ℕ) (strings left 
         under_leads m'' (Err refusal) end stands w (rw next (first_stops code s rest (with_dictionary (dictionary_in e after) w) end stands m' m'' refusal h))
 
     -- it is defined
-    pub under_next : (f : Processed) (later : List ℕ) → Kept e f later → length later ≡ length after
+    pub under_next : (f : Dictionary) (later : List ℕ) → Kept e f later → length later ≡ length after
         → ((w : World) → Meets m' m'' (Ok tt) (with_dictionary (dictionary_in f later) w) (with_dictionary (dictionary_in f later) w) (fetching code (s ∷ []) (with_dictionary (dictionary_in e after) w)))
         → Under code d f store later strings rest m m''
     under_next f later kept size h =

@@ -1,3 +1,3 @@
 mod Behind
 mod Stored
-mod Named
+mod Names

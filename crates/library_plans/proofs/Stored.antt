@@ -5,16 +5,15 @@ use Rattle.std.specs.List.{list_all}
 use Rattle.code.specs.declared.Code.{Ghosts as OfCode}
 use Rattle.refusal.specs.declared.Refusal.TheVariants.{NameUndefined, NotAString, ProgramNameLength, Locked, ProgramPresent, LibraryFull}
 use Rattle.library.specs.declared.reader.Reader.{Ghosts as OfReader}
-use Rattle.library.specs.Meaning.{Library, Program}
+use Rattle.library.specs.Meaning.{Library}
 use Rattle.library.specs.Name.{fits_name}
 use Rattle.library.specs.Keeping.{fits, space_of}
 use Rattle.machine.specs.Texts.{Text}
 use Rattle.machine.specs.Faults.{no_name, not_a_string, program_name_length, locked, program_present, library_full}
-use Rattle.machine.specs.Dictionary.{Dictionary, look_up}
 use Rattle.machine.specs.World.{World, Outcome, p1}
-use Rattle.machine.specs.Libraries.{is_string, has_program, program_to_store, store_program}
-use Rattle.dictionary.specs.Meant.{dictionary_in}
+use Rattle.machine.specs.Libraries.{is_string, has_program, store_program}
 use Rattle.value.specs.declared.sources.Sources.{Sources}
+use Rattle.library_plans.specs.Named.{meant, program_made}
 use Rattle.plan.specs.declared.effect.Effect.TheVariants.{Store}
 use Rattle.value.specs.declared.value.Value.TheVariants.{Nothing}
 use Rattle.plan.specs.Plans.{Refused, Planned}
@@ -24,23 +23,17 @@ module _ {C R : Type 0} {code : OfCode C} {reader : OfReader R} (s : Sources C R
   abbrev ps : List Text
   ps = s.parameters.now
 
-  abbrev d : Dictionary
-  d = dictionary_in s.dictionary.now s.store.now
-
   abbrev l : Library
   l = reader.meaning s.library.now
-
-  abbrev program : Program
-  program = program_to_store code.meaning ps d
 
   abbrev stores : World → Outcome
   stores = store_program code.meaning ps
 
   abbrev all_defined : Bool
-  all_defined = list_all (λ n. is_some (look_up code.meaning d n)) (drop 1 ps)
+  all_defined = list_all (λ n. is_some (meant s n)) (drop 1 ps)
 
   abbrev all_strings : Bool
-  all_strings = list_all (λ n. is_string (look_up code.meaning d n)) (drop 1 ps)
+  all_strings = list_all (λ n. is_string (meant s n)) (drop 1 ps)
 
   pub undefined : all_defined ≡ false → Refused s stores NameUndefined
   undefined h = refusing s stores no_name (λ w sees. rw (sees.dictionary, h) refl)
@@ -62,10 +55,10 @@ module _ {C R : Type 0} {code : OfCode C} {reader : OfReader R} (s : Sources C R
           present h = refusing s stores program_present (λ w sees. rw (sees.dictionary, sees.library, defined, strings, named, open_to_all, h) refl)
 
           module _ (absent : has_program (p1 ps) l ≡ false) where
-            pub is_full : fits (space_of program) l.space ≡ false → Refused s stores LibraryFull
+            pub is_full : fits (space_of (program_made s)) l.space ≡ false → Refused s stores LibraryFull
             is_full h = refusing s stores library_full (λ w sees. rw (sees.dictionary, sees.library, defined, strings, named, open_to_all, absent, h) refl)
 
-            pub stored : fits (space_of program) l.space ≡ true → Planned s stores (record { value = Nothing; effect = Store })
+            pub stored : fits (space_of (program_made s)) l.space ≡ true → Planned s stores (record { value = Nothing; effect = Store })
             stored h = record {
               stands = tt;
               may = record { all_strings = strings; named = named; granted = rw (open_to_all, absent, h) refl };

@@ -1,9 +1,9 @@
 // STORE.
 ghost use Rattle.std.specs.Prelude.{◌≡◌};
 ghost use Rattle.library.specs.Keeping.{fits, space_of};
-ghost use Rattle.machine.specs.Libraries.{store_program, program_to_store};
-ghost use Rattle.dictionary.specs.Meant.{dictionary_in};
+ghost use Rattle.machine.specs.Libraries.{store_program};
 ghost use Rattle.plan.specs.Plans.{Plans};
+ghost use Rattle.library_plans.specs.Named.{program_made};
 
 use crate::asking::{is_present, is_program_name};
 use crate::strings::{are_defined, are_strings, room_after};
@@ -15,7 +15,7 @@ use value::Sources;
 
 // Is there space for the program?
 fn has_space<C: Code, R: Reader>(sources: &Sources<'_, C, R>) -> bool
-    ensures { result ≡ fits (space_of (program_to_store C.Code.meaning sources.now.parameters.now (dictionary_in sources.now.dictionary.now sources.now.store.now))) (R.Reader.meaning sources.now.library.now).space }
+    ensures { result ≡ fits (space_of (program_made sources.now)) (R.Reader.meaning sources.now.library.now).space }
 {
     let space = sources.library.space();
     let parameters = sources.parameters;

@@ -3,10 +3,9 @@ ghost use Rattle.std.specs.Prelude.{◌≡◌, ◌+◌, ◌<◌, length, drop, i
 ghost use Rattle.std.specs.List.{list_all};
 ghost use Rattle.library.specs.Keeping.{strings_bytes};
 ghost use Rattle.machine.specs.Texts.{Text};
-ghost use Rattle.machine.specs.Dictionary.{look_up};
 ghost use Rattle.machine.specs.World.{parameter};
-ghost use Rattle.machine.specs.Libraries.{is_string, whole_body, program_to_store};
-ghost use Rattle.dictionary.specs.Meant.{dictionary_in};
+ghost use Rattle.machine.specs.Libraries.{is_string, whole_body};
+ghost use Rattle.library_plans.specs.Named.{meant, program_made};
 
 use code::Code;
 use dictionary::Meaning;
@@ -15,7 +14,7 @@ use value::Sources;
 
 // Has a parameter a meaning, as a name?
 fn is_defined<C: Code, R: Reader>(sources: &Sources<'_, C, R>, n: usize) -> bool
-    ensures { result ≡ is_some (look_up C.Code.meaning (dictionary_in sources.now.dictionary.now sources.now.store.now) (parameter n sources.now.parameters.now)) }
+    ensures { result ≡ is_some (meant sources.now (parameter n sources.now.parameters.now)) }
 {
     let name = sources.parameters.get(n);
     sources
@@ -26,7 +25,7 @@ fn is_defined<C: Code, R: Reader>(sources: &Sources<'_, C, R>, n: usize) -> bool
 
 // Does a parameter name a string?
 fn is_string<C: Code, R: Reader>(sources: &Sources<'_, C, R>, n: usize) -> bool
-    ensures { result ≡ is_string (look_up C.Code.meaning (dictionary_in sources.now.dictionary.now sources.now.store.now) (parameter n sources.now.parameters.now)) }
+    ensures { result ≡ is_string (meant sources.now (parameter n sources.now.parameters.now)) }
 {
     let name = sources.parameters.get(n);
     match sources
@@ -40,7 +39,7 @@ fn is_string<C: Code, R: Reader>(sources: &Sources<'_, C, R>, n: usize) -> bool
 
 // How long the whole body is that a parameter names.
 fn body_length<C: Code, R: Reader>(sources: &Sources<'_, C, R>, n: usize) -> usize
-    ensures { result ≡ length (whole_body (look_up C.Code.meaning (dictionary_in sources.now.dictionary.now sources.now.store.now) (parameter n sources.now.parameters.now))) }
+    ensures { result ≡ length (whole_body (meant sources.now (parameter n sources.now.parameters.now))) }
 {
     let name = sources.parameters.get(n);
     match sources
@@ -54,7 +53,7 @@ fn body_length<C: Code, R: Reader>(sources: &Sources<'_, C, R>, n: usize) -> usi
 
 // Have all names a meaning?
 pub(crate) fn are_defined<C: Code, R: Reader>(sources: &Sources<'_, C, R>) -> bool
-    ensures { result ≡ list_all (λ (n : Text). is_some (look_up C.Code.meaning (dictionary_in sources.now.dictionary.now sources.now.store.now) n)) (drop 1 sources.now.parameters.now) }
+    ensures { result ≡ list_all (λ (n : Text). is_some (meant sources.now n)) (drop 1 sources.now.parameters.now) }
 {
     for n in 1..sources.parameters.len() {
         if !is_defined(sources, n) {
@@ -66,7 +65,7 @@ pub(crate) fn are_defined<C: Code, R: Reader>(sources: &Sources<'_, C, R>) -> bo
 
 // Are they all of strings?
 pub(crate) fn are_strings<C: Code, R: Reader>(sources: &Sources<'_, C, R>) -> bool
-    ensures { result ≡ list_all (λ (n : Text). is_string (look_up C.Code.meaning (dictionary_in sources.now.dictionary.now sources.now.store.now) n)) (drop 1 sources.now.parameters.now) }
+    ensures { result ≡ list_all (λ (n : Text). is_string (meant sources.now n)) (drop 1 sources.now.parameters.now) }
 {
     for n in 1..sources.parameters.len() {
         if !is_string(sources, n) {
@@ -81,7 +80,7 @@ pub(crate) fn room_after<C: Code, R: Reader>(
     sources: &Sources<'_, C, R>,
     room: usize,
 ) -> Option<usize>
-    ensures { MatchOption result (room < strings_bytes (program_to_store C.Code.meaning sources.now.parameters.now (dictionary_in sources.now.dictionary.now sources.now.store.now)).strings) (λ left. left + strings_bytes (program_to_store C.Code.meaning sources.now.parameters.now (dictionary_in sources.now.dictionary.now sources.now.store.now)).strings ≡ room) }
+    ensures { MatchOption result (room < strings_bytes (program_made sources.now).strings) (λ left. left + strings_bytes (program_made sources.now).strings ≡ room) }
 {
     let mut left = room;
     for n in 1..sources.parameters.len() {

@@ -19,6 +19,7 @@ use Rattle.plan.specs.declared.effect.Effect.TheVariants.{Nothing}
 use Rattle.plan.specs.Plans.{Plans, Planned}
 use Rattle.number_plans.specs.Calculating.{result_of}
 
+-- each function writes its result
 by_result : (code : Code) (f : ArithmeticFunction) (ps : List Text) (w : World) → on_arithmetic code f ps w ≡ result_of code f (p1 ps) (p2 ps) w (λ z. valued (written code z) w)
 by_result code Ad ps w = refl
 by_result code Su ps w = refl

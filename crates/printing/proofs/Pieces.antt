@@ -28,12 +28,14 @@ on_line : (e room b : ℕ) (bs : Text) (n : ℕ) (ends : Bool) → (b == e) ≡ 
 on_line e room b bs n true said behind = ap (λ ends. e ∷ lines_left e (cond ends (Some bs) (Some (b ∷ bs)))) (sym said)
 on_line e room b bs n false said behind = ap (λ t. b ∷ t) behind ∙ ap (λ k. cut_lines e k (b ∷ bs)) (one_more n)
 
+-- the lines of a text are its first piece, an end of line, and the lines of what is left
 pub lines-cut : (e room : ℕ) (t : Text) → lines e room t ≡ cut_lines e (first_length e room t) t
 lines-cut e zero [] = refl
 lines-cut e (suc room) [] = refl
 lines-cut e zero (b ∷ bs) = behind_full e b bs (b == e) refl
 lines-cut e (suc room) (b ∷ bs) = on_line e room b bs (first_length e room bs) (b == e) refl (lines-cut e room bs)
 
+-- the same by parts that were computed
 pub cut_parts : (e : ℕ) {n k : ℕ} (t : Text) {piece behind : Text} {rest : Option Text} → n ≡ k → piece ≡ take n t → behind ≡ drop n t → rest ≡ next_text e behind
     → cut_lines e k t ≡ piece ++ e ∷ lines_left e rest
 cut_parts e t p q r s = cc

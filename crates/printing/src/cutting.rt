@@ -27,7 +27,7 @@ fn piece_length(end_of_line: u8, text: &[u8]) -> usize
         .count()
 }
 
-// What is printed behind a piece, where these bytes follow it: an end of line there is that of the piece.
+// What is left to be printed behind a piece that these bytes follow: an end of line there is that of the piece.
 fn behind_piece(end_of_line: u8, following: &[u8]) -> Option<&[u8]>
     ensures { option_copied result ≡ next_text end_of_line following.now }
 {
@@ -38,6 +38,7 @@ fn behind_piece(end_of_line: u8, following: &[u8]) -> Option<&[u8]>
     }
 }
 
+// The first piece of a text, and what is left of it.
 pub(crate) fn cut_off(end_of_line: u8, text: &[u8]) -> FirstPiece<'_>
     ensures lines { lines end_of_line 132 text.now ≡ result.piece.now ++ end_of_line ∷ lines_left end_of_line (option_copied result.rest) }
     ensures narrow { length result.piece.now ≤ 132 }

@@ -12,7 +12,6 @@ mod parameters;
 mod roll;
 mod rules;
 mod running;
-mod scanning;
 mod texts;
 mod writing;
 
@@ -22,5 +21,4 @@ pub use parameters::Parameters;
 pub use roll::Roll;
 pub use rules::{end_of_text, follow};
 pub use running::{pass_plain, plain_run};
-pub use scanning::{CallMaker, scan_text};
 pub use texts::ScanTexts;

@@ -1,4 +1,4 @@
-// A text that begins an area which was lent for it: what is printed, and the name of a call.
+// A text that begins an area which was lent for it, and goes on behind it.
 
 #![tactic(auto)]
 

@@ -26,6 +26,7 @@ fn given_bytes(count: i64) -> Value
     }
 }
 
+// What GN comes to at the parameters of a call.
 pub(crate) fn plan_giving<C: Code, R: Reader>(sources: &Sources<'_, C, R>) -> Result<Plan, Refusal>
     ensures { Plans sources.now (give_characters C.Code.meaning sources.now.parameters.now) result }
 {

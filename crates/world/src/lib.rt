@@ -2,7 +2,6 @@
 
 #![tactic(auto)]
 
-mod lending;
 mod world;
 
 pub use world::World;

@@ -2,7 +2,6 @@
 ghost use Rattle.std.specs.Prelude.{◌≤◌, length};
 
 use dictionary::Dictionary;
-use text_area::TextArea;
 
 #[derive(Drop)]
 pub struct World<'a, K> {
@@ -10,10 +9,15 @@ pub struct World<'a, K> {
     // where the dictionary's bytes lie
     pub store: &'a mut [u8],
     pub library: &'a mut K,
-    pub printed: TextArea<'a>,
-    // the name of the call that was refused
-    pub called: TextArea<'a>,
+    // the text that is printed begins the print area, and is so long
+    pub print: &'a mut [u8],
+    pub printed: usize,
+    // the name of the call that was refused begins its area, and is so long
+    pub called_name: &'a mut [u8],
+    pub called: usize,
     // for a text that is marked while its marks are counted
     pub scratch: &'a mut [u8],
     ghost whole: { dictionary.now.used ≤ length store.now },
+    ghost printed_within: { printed ≤ length print.now },
+    ghost called_within: { called ≤ length called_name.now },
 }

@@ -1,7 +1,7 @@
 use Rattle.std.proofs.Common.{◌∙◌, refl, sym}
 use Rattle.machine.specs.Faults.{program_name_length, program_absent}
 use Rattle.plan.proofs.Planning.{question_refuses, refusing}
-use Rattle.library_plans.proofs.Named.{foreign, proper}
+use Rattle.library_plans.proofs.Names.{foreign, proper}
 use Rattle.library_plans.proofs.naming.plan_names.Goals as goal
 
 pub returns-then-not-is_program_name : goal.returns-then-not-is_program_name

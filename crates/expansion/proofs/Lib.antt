@@ -1,0 +1,3 @@
+pub mod Memory
+mod Steps
+mod FromScan
