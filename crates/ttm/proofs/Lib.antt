@@ -1,0 +1,5 @@
+pub mod Foreign
+pub mod Promised
+pub mod Entries
+pub mod Late
+pub mod Replies
