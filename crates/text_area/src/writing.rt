@@ -20,7 +20,8 @@ impl<'a> TextArea<'a> {
     pub fn len(&self) -> usize
         ensures { result ≡ length (text_of self.now) }
     {
-        self.len
+        let TextArea { len, .. } = self;
+        *len
     }
 
     // A piece goes behind the text.
