@@ -1,3 +1,4 @@
 pub mod Exact
 pub mod Law
 pub mod Pairs
+pub mod Runs

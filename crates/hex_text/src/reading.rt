@@ -31,7 +31,7 @@ pub fn unhex(heap: Global, text: &[u8]) -> Result<Option<Vec<u8>>, AllocError>
     let (pairs, []) = text.as_chunks::<2>() else {
         return Ok(None);
     };
-    let mut bytes = Vec::with_capacity(heap, pairs.len())?;
+    let mut bytes = Vec::new(heap);
     for [high, low] in pairs {
         let Some(byte) = byte_of(*high, *low) else {
             return Ok(None);

@@ -62,7 +62,7 @@ fn read_strings(heap: Global, words: &[&str]) -> Result<Strings, ReadError>
     let (pairs, []) = words.as_chunks::<2>() else {
         return Err(ReadError::BadLine);
     };
-    let mut texts = Vec::with_capacity(heap, pairs.len())?;
+    let mut texts = Vec::new(heap);
     for [name, body] in pairs {
         texts.push(read_text(heap, name, body)?)?;
     }

@@ -7,9 +7,6 @@ pub returns-in_default : goal.returns-in_default
 returns-in_default c =
     record { bytes = sym (odd_none c.args.text.now (omega arith)); law = reads_in_hex }
 
-pub returns-in_err-bytes : goal.returns-in_err-bytes
-returns-in_err-bytes c = record { bytes = search rules; law = reads_in_hex }
-
 pub returns-in_default-byte_of : goal.returns-in_default-byte_of
 returns-in_default-byte_of c =
     let text = c.args.text.now in

@@ -25,7 +25,7 @@ returns-in_err-read_text c =
     let i = c.loop-name.name-index in
     let whole : length words ≡ length words / 2 * 2 = omega arith in
     let read = ap strings_in_pairs c.as_chunks.ensures.front ∙ by_pairs (length words / 2) words whole in
-    let error = err_from_is_err_and c.from_residual-in_err-read_text.result c.from_residual-in_err-read_text.ensures.1 in
+    let error = err_from_is_err_and c.from_residual.result c.from_residual.ensures.1 in
     let pair = string_in_pair (get_or pairs i []) in
     let bad : pair ≡ None → strings_in (texts words) ≡ None =
     λ none. sym (at_pair (map named (vec_items c.loop-name.texts)) pairs i None c.loop-name-test.true (sym none) ∙ c.loop-name.invariant ∙ read) in

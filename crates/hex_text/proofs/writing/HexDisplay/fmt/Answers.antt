@@ -1,14 +1,15 @@
-use Rattle.std.proofs.Common.{◌≡◌, ◌+◌, ◌++◌, [], get_or, take, false, ap, sym, ◌∙◌, rules}
-use Rattle.std.proofs.lemmas.Fmt.{hex_byte}
-use Rattle.std.proofs.lemmas.List.{take_more, flat_map_more}
+use Rattle.std.proofs.Common.{◌≡◌, ◌/◌, ◌++◌, length, take, rules}
 use Rattle.std.proofs.Output.{has_written_append, has_written_of_eq}
-use Rattle.hex_text.specs.Hex.{hexed, hexed_byte}
+use Rattle.std.proofs.lemmas.List.{take_all}
+use Rattle.std.specs.List.{flat_map}
+use Rattle.hex_text.specs.Hex.{hexed}
+use Rattle.hex_text.proofs.Runs.{by_runs}
 use Rattle.hex_text.proofs.writing.HexDisplay.fmt.Goals as goal
 
-pub loop-byte-preserved : goal.loop-byte-preserved
-loop-byte-preserved g c = λ plain.
+pub returns-clause-writes : goal.returns-clause-writes
+returns-clause-writes g c = λ plain ok.
     let bytes = c.args.self.now.0.now in
-    let i = c.loop-byte.byte-index in
-    let written = hex_byte false (get_or bytes i 0) (search rules) in
-    let more : hexed (take i bytes) ++ hexed_byte (get_or bytes i 0) ≡ hexed (take (i + 1) bytes) = flat_map_more hexed_byte [] (take i bytes) (get_or bytes i 0) ∙ ap hexed (sym (take_more bytes i 0 c.loop-byte-test.true)) in
-    has_written_of_eq _ _ _ _ _ (ap (λ t. hexed (take i bytes) ++ t) written ∙ more) (has_written_append _ _ _ _ _ _ (c.loop-byte.invariant plain) (search rules))
+    let runs = c.as_chunks.result.0.now in
+    let whole : flat_map hexed (take c.loop-run.run-index runs) ++ hexed c.as_chunks.result.1.now ≡ hexed bytes =
+    rw (take_all c.loop-run.run-index runs c.loop-run-test.false, c.as_chunks.ensures.front, c.as_chunks.ensures.back) (by_runs (length bytes / 32) bytes) in
+    has_written_of_eq _ _ _ _ _ whole (has_written_append _ _ _ _ _ _ (c.loop-run.invariant plain) (search rules))
