@@ -8,6 +8,7 @@ ghost use Rattle.code.specs.Meaning.{byte_of as byte_of_char, mark_of as mark_of
 
 mod ascii;
 mod ebcdic;
+mod lent;
 mod ranked;
 
 pub use ascii::Ascii;

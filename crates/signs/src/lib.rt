@@ -2,10 +2,11 @@
 
 #![tactic(auto)]
 
-ghost use Rattle.std.specs.Prelude.{◌≡◌, true, map, codes};
+ghost use Rattle.std.specs.Prelude.{◌≡◌, ⊤, true, map, codes};
 ghost use Rattle.code.specs.Meaning.{named_char};
 
 use code::Code;
+use std::alloc::AllocError;
 
 #[derive(Drop)]
 pub struct Signs<C: Code> {
@@ -40,6 +41,19 @@ pub struct Signs<C: Code> {
     ghost digits_are: { digits ≡ map C.Code.meaning.named (codes "0123456789") },
     ghost capitals_are: { capitals ≡ map C.Code.meaning.named (codes "ABCDEFGHIJKLMNOPQRSTUVWXYZ") },
 }
+
+// Signs of a code that is copied are copied with it.
+impl<C: Code + Copy> Clone for Signs<C> {
+    ghost is_clone = { λ one other. other ≡ one };
+
+    ghost is_infallible = { λ _. ⊤ };
+
+    fn clone(&self) -> Result<Self, AllocError> {
+        Ok(*self)
+    }
+}
+
+impl<C: Code + Copy> Copy for Signs<C> {}
 
 // The byte of a named character.
 fn spell<C: Code>(code: &C, named: char) -> u8
