@@ -71,7 +71,7 @@ at_place [] k r h = cc
 at_place (x ∷ rows) zero r h = let e : x ≡ r = cc in ap (λ (y : List ℕ). y ∷ rows) e
 at_place (x ∷ rows) (suc k) r h = at_place rows k r h
 
--- so it is among the first rows, and among them all
+-- a row among the first rows is at that place among them all, with the same rows before it
 taken : (n : ℕ) (rows : List (List ℕ)) (k : ℕ) (r : List ℕ) → slice_get (take n rows) k ≡ Some r → (take k (take n rows) ≡ take k rows) × (slice_get rows k ≡ Some r)
 taken zero rows k r h = cc
 taken (suc n) [] k r h = cc
@@ -96,6 +96,15 @@ text_sizes-take_more : (i n : ℕ) (rows : List (List ℕ)) → text_sizes (entr
 text_sizes-take_more i n rows =
     ap (λ (xs : List (List ℕ)). text_sizes (entries_of_rows xs)) (take-add i n rows) ∙ text_sizes-append (take i rows) (take n (drop i rows))
 
+-- the texts of rows lie behind those of the rows before them
+pub sizes_within : (rows : List (List ℕ)) (i n : ℕ) →
+    text_sizes (entries_of_rows (take i rows)) + text_sizes (entries_of_rows (take n (drop i rows))) ≤ text_sizes (entries_of_rows rows)
+sizes_within rows i n =
+    let front = text_sizes-take_more i n rows in
+    let whole = ap (λ (xs : List (List ℕ)). text_sizes (entries_of_rows xs)) (take-append-drop (i + n) rows) in
+    let parts = text_sizes-append (take (i + n) rows) (drop (i + n) rows) in
+    omega arith
+
 pub next_program : (rows : List (List ℕ)) (ts : List ℕ) (i n : ℕ) (r : List ℕ) (rs : List (List ℕ)) → drop i rows ≡ r ∷ rs → n ≡ 1 + prefix_len (same r) rs →
     programs_of_rows (drop i rows) (texts_behind (take i rows) ts)
     ≡ record { name = program_of (first_entry r); strings = strings_of (lines (entries_of_rows (take n (drop i rows))) (texts_behind (take i rows) ts)) }
@@ -116,7 +125,7 @@ next_program rows ts i n r rs e m =
     ∙ ap (λ (vs : List ℕ). p (take n (drop i rows)) ∷ programs_of_rows (drop (i + n) rows) vs)
     (drop-drop (size (take n (drop i rows))) (size (take i rows)) ts ∙ ap (λ (j : ℕ). drop j ts) (sym (text_sizes-take_more i n rows)))
 
--- the first program: the name of the first row, and the strings of the rows up to the first of another name
+-- The first program alone: the name of the first row, and the strings of the rows up to the first of another name.
 abbrev pub of_name : List ℕ → List ℕ → Bool
 of_name n r = bytes_eq (program_of (first_entry r)) n
 
@@ -150,16 +159,7 @@ first_of_name rows ts i n h = by (drop i rows) refl
         let m : program_of (first_entry r) ≡ n = cc in
         first ∙ ap (λ (name : List ℕ). Some (first_named rows ts i name)) m
 
--- the texts of rows lie behind those of the rows before them
-pub sizes_within : (rows : List (List ℕ)) (i n : ℕ) →
-    text_sizes (entries_of_rows (take i rows)) + text_sizes (entries_of_rows (take n (drop i rows))) ≤ text_sizes (entries_of_rows rows)
-sizes_within rows i n =
-    let front = text_sizes-take_more i n rows in
-    let whole = ap (λ (xs : List (List ℕ)). text_sizes (entries_of_rows xs)) (take-append-drop (i + n) rows) in
-    let parts = text_sizes-append (take (i + n) rows) (drop (i + n) rows) in
-    omega arith
-
--- and one of its strings, by what is found among the rows that are left: none, or a row at its place
+-- one of its strings, by what is found among the rows that are left: none, or a row at its place
 module _ (rows : List (List ℕ)) (ts : List ℕ) (i : ℕ) (left : List (List ℕ)) (n : List ℕ) (k : ℕ) (at : left ≡ drop i rows) where
   sought : (o : Option (List ℕ)) → o ≡ slice_get (take_while (of_name n) left) k → slice_get (take_while (of_name n) (drop i rows)) k ≡ o
   sought o e = ap (λ (xs : List (List ℕ)). slice_get (take_while (of_name n) xs) k) (sym at) ∙ sym e
@@ -186,7 +186,7 @@ module _ (rows : List (List ℕ)) (ts : List ℕ) (i : ℕ) (left : List (List �
       (drop-drop (text_sizes (entries_of_rows (take k (drop i rows)))) (text_sizes (entries_of_rows (take i rows))) ts
       ∙ ap (λ (m : ℕ). drop m ts) (sym (text_sizes-take_more i k rows)))
 
-  -- its place is among the rows, and its texts lie within the texts of all
+  -- that place is among the rows, and the row's texts lie within the texts
   pub place_found : (r : List ℕ) → Some r ≡ slice_get (take_while (of_name n) left) k →
       (i + k < length rows) × (text_sizes (entries_of_rows (take (i + k) rows)) + text_size (first_entry r) ≤ text_sizes (entries_of_rows rows))
   place_found r e =

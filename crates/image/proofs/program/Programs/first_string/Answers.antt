@@ -39,6 +39,9 @@ split-requires c =
     let size = ap (λ (xs : List (List ℕ)). text_sizes (entries_of_rows xs)) c.split_at-2.ensures.front in
     omega (arith, place.1, size, c.text_size.ensures, c.split_at-3.ensures.back_len, c.args.self.now.image.filled)
 
+cut_at : (ts vs : List ℕ) (n m : ℕ) → vs ≡ drop n ts → n ≡ m → vs ≡ drop m ts
+cut_at ts vs n m e h = e ∙ ap (λ (k : ℕ). drop k ts) h
+
 pub returns : goal.returns
 returns c =
     let contents = c.args.self.now.image.contents in
@@ -46,7 +49,7 @@ returns c =
     let i = c.args.self.now.start in
     let e = first_entry c.in_ok-bytes.bytes.now in
     let texts : c.split_at-3.result.1.now ≡ texts_behind c.split_at-2.result.0.now contents.texts.now =
-    c.split_at-3.ensures.back ∙ ap (λ (n : ℕ). drop n contents.texts.now) c.text_size.ensures in
+    cut_at contents.texts.now _ _ _ c.split_at-3.ensures.back (omega (arith, c.text_size.ensures)) in
     ap (λ (l : Line). Some l.string)
     (c.split.ensures.line ∙ ap (line_at e) (texts ∙ ap (λ (xs : List (List ℕ)). texts_behind xs contents.texts.now) c.split_at-2.ensures.front))
     ∙ sym (string_found rows contents.texts.now i _ c.in_ok-name.name.now c.args.string c.split_at.ensures.back c.in_ok-name.ensures _ c.in_ok-bytes.ensures)
