@@ -1,6 +1,8 @@
 // The contents of an image: its entries, and the names and bodies of their strings.
 ghost use Rattle.std.specs.Prelude.{◌≡◌, ◌≤◌, map, length, MatchResult};
-ghost use Rattle.std.specs.List.{list_all};
+ghost use Rattle.std.specs.List.{list_all, slice_get, take_while};
+ghost use Rattle.std.specs.Option.{option_map};
+ghost use Rattle.std.specs.Str.{bytes_eq};
 ghost use Rattle.std.specs.Result.{result_err};
 ghost use Rattle.image.specs.Tests.{first_is, among};
 ghost use Rattle.image.specs.Layout.{proper_bytes};
@@ -22,6 +24,20 @@ pub fn text_size(entries: &[EntryBytes]) -> usize
         .iter()
         .map(|bytes| Entry { bytes }.text_size())
         .sum()
+}
+
+// The entry of a string, counted from 0, where the first entries are those of the program of that name.
+pub fn string_entry<'a>(
+    entries: &'a [EntryBytes],
+    name: &[u8],
+    string: usize,
+) -> Option<&'a EntryBytes>
+    ensures { option_map (λ x. x.now) result ≡ slice_get (take_while (λ r. bytes_eq (program_of (first_entry r)) name.now) entries.now) string }
+{
+    entries
+        .iter()
+        .take_while(|bytes| Entry { bytes: *bytes }.is_of(name))
+        .nth(string)
 }
 
 // Is the first of these entries of the program of that name?

@@ -1,17 +1,17 @@
 // The programs of an image, as they lie in it.
-ghost use Rattle.std.specs.Prelude.{◌≡◌, ◌+◌, ◌-◌, ◌≤◌, length};
-ghost use Rattle.std.specs.List.{prefix_len, slice_get};
+ghost use Rattle.std.specs.Prelude.{◌≡◌, ◌+◌, ◌-◌, ◌≤◌, length, drop};
+ghost use Rattle.std.specs.List.{prefix_len};
 ghost use Rattle.std.specs.Str.{bytes_eq};
 ghost use Rattle.std.specs.Option.{option_map};
 ghost use Rattle.std.specs.Iterator.{YieldsFirstBy, at_most};
-ghost use Rattle.library.specs.Meaning.{program_at};
+ghost use Rattle.library.specs.Meaning.{program_at, name_at, string_at};
 ghost use Rattle.library.specs.Views.{string_viewed};
 ghost use Rattle.image.specs.Contents.{first_entry, entries_of_rows, program_of, text_sizes};
 
-use crate::contents::{Contents, text_size};
+use crate::contents::{Contents, string_entry, text_size};
 use crate::entry::{Entry, EntryBytes};
 use crate::granted::Image;
-use crate::line::Lines;
+use crate::line::Line;
 use library::StringView;
 
 // How many entries from the first on are of the program of that name.
@@ -36,23 +36,6 @@ pub struct ProgramView<'a> {
     ghost there: { text_sizes (entries_of_rows before.now) + text_sizes (entries_of_rows entries.now) ≤ length texts.now },
 }
 
-impl<'a> ProgramView<'a> {
-    ghost use Rattle.image.specs.Programs.{program_viewed};
-
-    // One of its strings, counted from 0.
-    pub fn string(&self, string: usize) -> Option<StringView<'a>>
-        ensures { option_map string_viewed result ≡ slice_get (program_viewed self.now).strings string }
-    {
-        let (_, texts) = self.texts.split_at(text_size(self.before));
-        let mut lines = Lines {
-            entries: self.entries,
-            texts,
-        };
-        let line = lines.nth(string)?;
-        Some(line.string)
-    }
-}
-
 // The programs of an image from one of its entries on.
 #[derive(Drop)]
 pub struct Programs<'a> {
@@ -74,11 +57,51 @@ impl<'a> Image<'a> {
         }
     }
 
+    // Its programs from one of them on, counted from 0.
+    pub(crate) fn programs_from(&self, program: usize) -> Programs<'a>
+        ensures { programs_left result ≡ drop program (programs_held self.now) }
+    {
+        let mut programs = self.iter();
+        for _ in 0..program {
+            if programs.next().is_none() {
+                break;
+            }
+        }
+        programs
+    }
+
     // One of its programs, counted from 0.
     pub(crate) fn program(&self, program: usize) -> Option<ProgramView<'a>>
         ensures { option_map program_viewed result ≡ program_at (programs_held self.now) program }
     {
         self.iter().nth(program)
+    }
+}
+
+impl<'a> Programs<'a> {
+    ghost use Rattle.image.specs.Programs.{programs_left};
+
+    // The name of the first program, read off its first entry alone.
+    pub fn first_name(&self) -> Option<&'a [u8]>
+        ensures { option_map (λ x. x.now) result ≡ name_at (programs_left self.now) 0 }
+    {
+        let (_, left) = self.image.contents.entries.split_at(self.start);
+        let bytes = left.first()?;
+        Some(Entry { bytes }.program())
+    }
+
+    // A string of the first program, counted from 0: no entry behind its own is read.
+    pub fn first_string(&self, string: usize) -> Option<StringView<'a>>
+        ensures { option_map string_viewed result ≡ string_at (programs_left self.now) 0 string }
+    {
+        let Contents { entries, texts } = self.image.contents;
+        let (_, left) = entries.split_at(self.start);
+        let name = self.first_name()?;
+        let bytes = string_entry(left, name, string)?;
+        let (before, _) = entries.split_at(self.start + string);
+        let (_, texts) = texts.split_at(text_size(before));
+        let (line, _) = Line::split(Entry { bytes }, texts);
+        Some(line.string)
     }
 }
 

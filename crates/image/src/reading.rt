@@ -14,8 +14,7 @@ impl<'a> Reader for Image<'a> {
     }
 
     fn name(&self, program: usize) -> Option<&[u8]> {
-        let program = self.program(program)?;
-        Some(program.name)
+        self.programs_from(program).first_name()
     }
 
     fn strings(&self, program: usize) -> Option<usize> {
@@ -24,7 +23,7 @@ impl<'a> Reader for Image<'a> {
     }
 
     fn string(&self, program: usize, string: usize) -> Option<StringView<'_>> {
-        self.program(program)?.string(string)
+        self.programs_from(program).first_string(string)
     }
 
     fn space(&self) -> Space {
