@@ -1,2 +1,3 @@
 pub mod EachShown
 pub mod Lines
+pub mod Marks

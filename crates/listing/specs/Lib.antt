@@ -3,3 +3,4 @@ pub mod Ascii
 pub mod Ebcdic
 pub mod Listing
 pub mod Adds
+pub mod Runs
