@@ -60,10 +60,15 @@ split r (q ∷ rs) ts =
     ∙ ap (λ (m : ℕ). alone ∷ programs_of_rows (q ∷ rs) (drop m ts)) (omega arith)
     ∙ ap (split_after r (q ∷ rs) ts) (sym (cond-false _ _ _ f)))
 
--- One item of an iterator passed by.
-pub one_passed : {S A B : Type 0} (view : A → B) (left : S → List B) (n : ℕ) (o : Option A) (s t : S) → is_some o ≡ true → YieldsFirstBy view left s o t → drop n (left t) ≡ drop (suc n) (left s)
-one_passed view left n None s t e h = cc
-one_passed view left n (Some x) s t e h = sym (ap (drop (suc n)) h)
+-- What an iterator yields is the first item that is left.
+pub first_yielded : {S A B : Type 0} (view : A → B) (left : S → List B) (o : Option A) (s t : S) → YieldsFirstBy view left s o t → option_map view o ≡ slice_get (left s) 0
+first_yielded view left None s t h = sym (ap (λ xs. slice_get xs 0) h.0)
+first_yielded view left (Some x) s t h = sym (ap (λ xs. slice_get xs 0) h)
+
+pub first_behind : {A : Type 0} (n : ℕ) (xs : List A) → slice_get (drop n xs) 0 ≡ slice_get xs n
+first_behind zero xs = refl
+first_behind (suc n) [] = refl
+first_behind (suc n) (x ∷ xs) = first_behind n xs
 
 -- The row at a place, and the string at a place.
 pub at_place : (rows : List (List ℕ)) (k : ℕ) (r : List ℕ) → slice_get rows k ≡ Some r → drop k rows ≡ r ∷ drop (suc k) rows

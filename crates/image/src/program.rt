@@ -1,5 +1,5 @@
 // The programs of an image, as they lie in it.
-ghost use Rattle.std.specs.Prelude.{◌≡◌, ◌+◌, ◌-◌, ◌≤◌, length, drop};
+ghost use Rattle.std.specs.Prelude.{◌≡◌, ◌+◌, ◌-◌, ◌≤◌, false, [], length, drop};
 ghost use Rattle.std.specs.List.{prefix_len};
 ghost use Rattle.std.specs.Str.{bytes_eq};
 ghost use Rattle.std.specs.Option.{option_map};
@@ -63,7 +63,7 @@ impl<'a> Image<'a> {
     {
         let mut programs = self.iter();
         for _ in 0..program {
-            if programs.next().is_none() {
+            if !programs.pass() {
                 break;
             }
         }
@@ -74,12 +74,26 @@ impl<'a> Image<'a> {
     pub(crate) fn program(&self, program: usize) -> Option<ProgramView<'a>>
         ensures { option_map program_viewed result ≡ program_at (programs_held self.now) program }
     {
-        self.iter().nth(program)
+        self.programs_from(program).next()
     }
 }
 
 impl<'a> Programs<'a> {
     ghost use Rattle.image.specs.Programs.{programs_left};
+
+    // Goes past the first program, whose entries are counted and not shown; whether there is one.
+    fn pass(&mut self) -> bool
+        ensures passed { programs_left self.new ≡ drop 1 (programs_left self.old) }
+        ensures ended { result ≡ false → programs_left self.old ≡ [] }
+    {
+        let (_, left) = self.image.contents.entries.split_at(self.start);
+        let Some((first, rest)) = left.split_first() else {
+            return false;
+        };
+        let name = Entry { bytes: first }.program();
+        self.start += 1 + count_strings(rest, name);
+        true
+    }
 
     // The name of the first program, read off its first entry alone.
     pub fn first_name(&self) -> Option<&'a [u8]>

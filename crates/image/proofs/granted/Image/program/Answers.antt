@@ -1,6 +1,13 @@
-use Rattle.std.proofs.lemmas.Iterator.Consumers.{nth_from_yields_List, YieldsList-from_first}
+use Rattle.std.proofs.Common.{◌≡◌, List, ap, ◌∙◌}
+use Rattle.std.specs.List.{slice_get}
+use Rattle.library.specs.Meaning.{Program}
+use Rattle.image.specs.Granting.{programs_held}
 use Rattle.image.specs.Programs.{program_viewed, programs_left}
+use Rattle.image.proofs.Programs.{first_yielded, first_behind}
 use Rattle.image.proofs.granted.Image.program.Goals as goal
 
 pub returns : goal.returns
-returns c = nth_from_yields_List _ c.nth.new.self _ c.nth.ensures.ran (YieldsList-from_first program_viewed programs_left _ c.iter.ensures)
+returns c =
+    first_yielded program_viewed programs_left c.next.result c.programs_from.result c.next.new.self c.next.ensures.steps
+    ∙ ap (λ (ps : List Program). slice_get ps 0) c.programs_from.ensures
+    ∙ first_behind c.args.program (programs_held c.args.self.now)
