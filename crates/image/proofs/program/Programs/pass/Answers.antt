@@ -15,5 +15,5 @@ returns-clause-passed c =
     let n = 1 + c.count_strings.result in
     let cut : drop i contents.entries.now ≡ first ∷ rest = sym c.split_at.ensures.back ∙ c.in-Some.ensures.cases.0 in
     let count : n ≡ 1 + prefix_len (same first) rest =
-        ap (λ (k : ℕ). 1 + k) (c.count_strings.ensures.value ∙ ap (λ (name : List ℕ). prefix_len (λ r. bytes_eq (program_of (first_entry r)) name) rest) c.program-name.ensures) in
+    ap (λ (k : ℕ). 1 + k) (c.count_strings.ensures.value ∙ ap (λ (name : List ℕ). prefix_len (λ r. bytes_eq (program_of (first_entry r)) name) rest) c.program-name.ensures) in
     sym (ap (λ (ps : List Program). drop 1 ps) (next_program contents.entries.now contents.texts.now i n first rest cut count))
