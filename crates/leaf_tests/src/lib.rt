@@ -14,6 +14,8 @@ mod rule_tests;
 #[cfg(test)]
 mod scan_tests;
 mod scanning;
+#[cfg(test)]
+mod signs_tests;
 mod spelling;
 mod stored;
 mod stored_classes;
