@@ -47,7 +47,7 @@ pub struct Hex<'a>(pub &'a [u8]);
 impl fmt::Display for Hex<'_> {
     ghost output = { λ h. Some (hexed h.0.now) };
 
-    // A write costs as much for many digits as for one.
+    // A write of many digits costs little more than a write of one.
     fn fmt<W: fmt::Write>(&self, f: &mut fmt::Formatter<W>) -> fmt::Result {
         let (runs, rest) = self.0.as_chunks::<32>();
         for run in runs {

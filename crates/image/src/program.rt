@@ -1,8 +1,8 @@
 // The programs of an image, as they lie in it.
-ghost use Rattle.std.specs.Prelude.{◌≡◌, ◌+◌, ◌-◌, ◌≤◌, false, [], length, drop};
+ghost use Rattle.std.specs.Prelude.{◌≡◌, ◌+◌, ◌-◌, ◌≤◌, length, drop};
 ghost use Rattle.std.specs.List.{prefix_len};
 ghost use Rattle.std.specs.Str.{bytes_eq};
-ghost use Rattle.std.specs.Option.{option_map};
+ghost use Rattle.std.specs.Option.{option_map, is_some};
 ghost use Rattle.std.specs.Iterator.{YieldsFirstBy, at_most};
 ghost use Rattle.library.specs.Meaning.{program_at, name_at, string_at};
 ghost use Rattle.library.specs.Views.{string_viewed};
@@ -84,7 +84,7 @@ impl<'a> Programs<'a> {
     // Goes past the first program, whose entries are counted and not shown; whether there is one.
     fn pass(&mut self) -> bool
         ensures passed { programs_left self.new ≡ drop 1 (programs_left self.old) }
-        ensures ended { result ≡ false → programs_left self.old ≡ [] }
+        ensures found { result ≡ is_some (program_at (programs_left self.old) 0) }
     {
         let (_, left) = self.image.contents.entries.split_at(self.start);
         let Some((first, rest)) = left.split_first() else {
